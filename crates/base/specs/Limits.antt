@@ -1,0 +1,25 @@
+-- The limits of document 01, "The machine". src/lib.rt has the same numbers for the code.
+use Prim.Native.Nat.{ℕ}
+
+-- doublewords of a line; lines of the largest memory; words of a line set, of 64 lines each
+abbrev pub line-size : ℕ
+line-size = 16
+
+abbrev pub lines : ℕ
+lines = 256
+
+abbrev pub words : ℕ
+words = 4
+
+-- the most lines of a footprint, places of a log, levels of nesting and thread records
+abbrev pub most-footprint : ℕ
+most-footprint = 32
+
+abbrev pub most-places : ℕ
+most-places = 64
+
+abbrev pub most-levels : ℕ
+most-levels = 15
+
+abbrev pub most-threads : ℕ
+most-threads = 4

@@ -1,0 +1,32 @@
+// The limits of document 01 ("The machine"). specs/Limits.antt has the same numbers for the definitions: change both together.
+
+ghost use mathlib.Core.Path.{_≡_};
+ghost use Prim.Native.Nat.{_<_};
+ghost use Rattle.base.specs.Below.{bit};
+
+// Doublewords of a line, and lines of the largest memory.
+pub const LINE: usize = 16;
+
+pub const LINES: usize = 256;
+
+// Words of a line set, of 64 lines each.
+pub const WORDS: usize = 4;
+
+// The most lines that a transaction's footprint has, and the most places that its log has.
+pub const FOOTPRINT: u32 = 32;
+
+pub const PLACES: usize = 64;
+
+// The deepest nesting.
+pub const LEVELS: u64 = 15;
+
+// Thread records of a machine.
+pub const THREADS: usize = 4;
+
+// A single bit as a number.
+pub fn bit(b: bool) -> u64
+    ensures { λ r. ⌜ r ≡ bit b ⌝ }
+    ensures { λ r. ⌜ r < 2 ⌝ }
+{
+    if b { 1 } else { 0 }
+}

@@ -1,0 +1,289 @@
+-- Laws of the line sets: places of words, what a set holds after a line was added, footprints and meetings.
+use mathlib.Core.Path.{_≡_, refl, sym, ap, _∙_}
+use mathlib.Core.Bool.{Bool, true, false, _&&_, _||_, not, and-comm, or-comm, or-false, or-true, true≢false}
+use mathlib.Core.List.{List}
+use Prim.Native.Nat.{ℕ, zero, suc, _+_, _-_, _*_, _/_, _%_, _^_, _≤_, _<_, min, max}
+use native.Mathlib.Nat.{mod-lt, zero-div, div-one, lt-of-le-of-lt}
+use native.Mathlib.Decide.{ℕ-discrete, decLt}
+use native.Mathlib.Omega.{arith}
+use native.Mathlib.Numerals.{one-add}
+use lib.Arith.{digits-mod, lt-one}
+use lib.Pow.{shr-shr}
+use lib.Bits.{bitAnd, bitOr, and-shr, and-step, and-le-l, or-shr, or-step, or-lt}
+use lib.Count.{ones, ones-step}
+use lib.Dec.{eqb, eqb·suc-zero, eqb·zero-suc, eqb·suc-suc, lit<}
+use lib.ListN.{getD, length, length-set, replicate}
+use lib.Seq.{getD-set-same, getD-set-other, set-out}
+use borrow.Author.Tests.{eq-eqb, ne-eqb, eqb-true}
+use Rattle.base.specs.Limits.{lines, words}
+use Rattle.base.specs.Below.{bit, any-below, count-below}
+use Rattle.base.proofs.Below.{any-at, any-false, any-false-at, any-witness, any-cong, any-add, count-low, count-cong, count-le, count-add, count-one, and-intro}
+use Rattle.lines.specs.Lines.{place, word, empty, has, with, meets, footprint, shared, joined}
+use Rattle.lines.specs.declared.LineSet.{LineSet}
+
+-- ---- the places of a word
+
+-- a digit is below 2
+digit : (n : ℕ) → n % 2 < 2
+digit n = mod-lt n (lit< tt)
+
+-- a digit is the bit of the test whether it is 1
+digit-bit : (d : ℕ) → d < 2 → bit (eqb d 1) ≡ d
+digit-bit zero h = refl
+digit-bit (suc zero) h = refl
+digit-bit (suc (suc d)) h = absurd (let z : suc (suc d) < 2 = h in omega arith)
+
+-- a bit is a digit, and tested so
+bit-digit : (b : Bool) → (bit b < 2) × (eqb (bit b) 1 ≡ b)
+bit-digit true = (lit< tt, refl)
+bit-digit false = (lit< tt, refl)
+
+-- the places of two words that are joined digit by digit
+module _ (op f : ℕ → ℕ → ℕ) (o : Bool → Bool → Bool)
+    (shr : (a b k : ℕ) → op a b / 2 ^ k ≡ op (a / 2 ^ k) (b / 2 ^ k))
+    (step : (a b : ℕ) → op a b ≡ op (a / 2) (b / 2) * 2 + f (a % 2) (b % 2))
+    (bits : (x y : Bool) → f (bit x) (bit y) ≡ bit (o x y)) where
+  op-place : (a b i : ℕ) → place (op a b) i ≡ o (place a i) (place b i)
+  unfolding place
+  op-place a b i =
+      let x = a / 2 ^ i in
+      let y = b / 2 ^ i in
+      let c = o (place a i) (place b i) in
+      let e : f (x % 2) (y % 2) ≡ bit c = (λ j. f (sym (digit-bit (x % 2) (digit x)) j) (sym (digit-bit (y % 2) (digit y)) j)) ∙ bits (place a i) (place b i) in
+      ap (λ (n : ℕ). eqb (n % 2) 1) (shr a b i ∙ step x y ∙ ap (λ (n : ℕ). op (x / 2) (y / 2) * 2 + n) e)
+      ∙ ap (λ (n : ℕ). eqb n 1) (digits-mod (op (x / 2) (y / 2)) (bit-digit c .0)) ∙ bit-digit c .1
+
+pub or-place : (a b i : ℕ) → place (bitOr a b) i ≡ (place a i || place b i)
+or-place = op-place bitOr max _||_ or-shr or-step bits
+  where
+    bits : (x y : Bool) → max (bit x) (bit y) ≡ bit (x || y)
+    bits true true = refl
+    bits true false = refl
+    bits false true = refl
+    bits false false = refl
+
+pub and-place : (a b i : ℕ) → place (bitAnd a b) i ≡ (place a i && place b i)
+and-place = op-place bitAnd min _&&_ and-shr and-step bits
+  where
+    bits : (x y : Bool) → min (bit x) (bit y) ≡ bit (x && y)
+    bits true true = refl
+    bits true false = refl
+    bits false true = refl
+    bits false false = refl
+
+-- 0 has no place set
+zero-place : (i : ℕ) → place 0 i ≡ false
+unfolding place
+zero-place i = ap (λ (n : ℕ). eqb (n % 2) 1) (zero-div (2 ^ i))
+
+-- the lowest place, and the others
+low-place : (n : ℕ) → place n 0 ≡ eqb (n % 2) 1
+unfolding place
+low-place n = ap (λ (x : ℕ). eqb (x % 2) 1) (div-one n)
+
+half-place : (n i : ℕ) → place (n / 2) i ≡ place n (suc i)
+unfolding place
+half-place n i = ap (λ (x : ℕ). eqb (x % 2) 1) (shr-shr n 1 i ∙ ap (λ (k : ℕ). n / 2 ^ k) (one-add i))
+
+-- the one place of a power of two
+power-place : (b i : ℕ) → place (2 ^ b) i ≡ eqb i b
+unfolding place
+power-place zero zero = refl
+power-place zero (suc i) = sym (half-place 1 i) ∙ zero-place i ∙ sym (eqb·suc-zero i)
+power-place (suc b) zero =
+    low-place (2 ^ suc b) ∙ ap (λ (n : ℕ). eqb n 1) (let e : 2 ^ suc b % 2 ≡ 0 = omega arith in e) ∙ sym (eqb·zero-suc b)
+power-place (suc b) (suc i) =
+    sym (half-place (2 ^ suc b) i) ∙ ap (λ (n : ℕ). place n i) (let e : 2 ^ suc b / 2 ≡ 2 ^ b = omega arith in e)
+    ∙ power-place b i ∙ sym (eqb·suc-suc i b)
+
+-- the ones of a number of k digits are the places below k that are set
+pub ones-count : (k n : ℕ) → n < 2 ^ k → ones n ≡ count-below (place n) k
+unfolding count-below ones
+ones-count zero n h = ap ones (lt-one h)
+ones-count (suc k) n h =
+    ones-step n
+    ∙ (λ j. (sym (digit-bit (n % 2) (digit n)) ∙ ap bit (sym (low-place n))) j + ones-count k (n / 2) (omega arith) j)
+    ∙ (λ j. bit (place n 0) + count-below (λ i. half-place n i j) k)
+    ∙ sym (count-low (place n) k)
+
+-- a number of k digits with no place set is 0
+no-place : (k n : ℕ) → n < 2 ^ k → ((i : ℕ) → i < k → place n i ≡ false) → n ≡ 0
+no-place zero n h p = lt-one h
+no-place (suc k) n h p =
+    let low : n % 2 ≡ 0 = sym (digit-bit (n % 2) (digit n)) ∙ ap bit (sym (low-place n) ∙ p 0 (omega arith)) in
+    let high : n / 2 ≡ 0 = no-place k (n / 2) (omega arith) (λ i l. half-place n i ∙ p (suc i) (omega arith)) in
+    omega arith
+
+-- and such a number has a place set unless it is 0
+pub any-place : (k n : ℕ) → n < 2 ^ k → any-below (place n) k ≡ not (eqb n 0)
+any-place k n h = go (any-below (place n) k) refl
+  where
+    go : (b : Bool) → any-below (place n) k ≡ b → b ≡ not (eqb n 0)
+    go true e =
+        let w = any-witness (place n) k e in
+        ap not (sym (ne-eqb n 0 (λ z. true≢false (sym (w .2) ∙ ap (λ (x : ℕ). place x (w .0)) z ∙ zero-place (w .0)))))
+    go false e = ap not (sym (eq-eqb n 0 (no-place k n h (λ i l. any-false-at (place n) k i e l))))
+
+-- the ones of two joined words are the places that are set in either
+pub joined-ones : (a b : ℕ) → a < 2 ^ 64 → b < 2 ^ 64 → ones (bitOr a b) ≡ joined a b
+unfolding joined
+joined-ones a b h k = ones-count 64 (bitOr a b) (or-lt 64 a b h k) ∙ count-cong _ _ 64 (λ i l. or-place a b i)
+
+pub joined-le : (a b : ℕ) → joined a b ≤ 64
+unfolding joined
+joined-le a b = count-le _ 64
+
+-- two words share a place unless their bitwise and is 0
+pub shared-and : (a b : ℕ) → a < 2 ^ 64 → shared a b ≡ not (eqb (bitAnd a b) 0)
+unfolding shared
+shared-and a b h =
+    any-cong _ _ 64 (λ i l. sym (and-place a b i)) ∙ any-place 64 (bitAnd a b) (lt-of-le-of-lt (and-le-l a b) h)
+
+-- ---- the lines of a word
+
+-- the line is in either set, or in both
+abbrev pub either : LineSet → LineSet → ℕ → Bool
+either r w l = has r l || has w l
+
+abbrev pub both : LineSet → LineSet → ℕ → Bool
+both a b l = has a l && has b l
+
+-- line 64 k + i is place i of word k
+at-word : (s : LineSet) (k i : ℕ) → i < 64 → has s (64 * k + i) ≡ place (word s k) i
+unfolding has
+at-word s k i h =
+    let q : (64 * k + i) / 64 ≡ k = omega arith in
+    let r : (64 * k + i) % 64 ≡ i = omega arith in
+    λ j. place (word s (q j)) (r j)
+
+-- the lines of the first k words, and of one word more
+pub footprint-more : (r w : LineSet) (k : ℕ) → count-below (either r w) (64 * (k + 1)) ≡ count-below (either r w) (64 * k) + joined (word r k) (word w k)
+unfolding joined
+footprint-more r w k =
+    ap (count-below _) (let e : 64 * (k + 1) ≡ 64 * k + 64 = omega arith in e) ∙ count-add (either r w) (64 * k) 64
+    ∙ ap (λ (x : ℕ). count-below (either r w) (64 * k) + x) (count-cong _ _ 64 (λ i h. λ j. at-word r k i h j || at-word w k i h j))
+
+pub meets-more : (a b : LineSet) (k : ℕ) (t : Bool) → 0 < k → shared (word a (k - 1)) (word b (k - 1)) ≡ t → any-below (both a b) (64 * k) ≡ (t || any-below (both a b) (64 * (k - 1)))
+unfolding shared
+meets-more a b k t p q =
+    ap (any-below _) (let e : 64 * k ≡ 64 * (k - 1) + 64 = omega arith in e) ∙ any-add (both a b) (64 * (k - 1)) 64
+    ∙ ap (λ (x : Bool). x || any-below (both a b) (64 * (k - 1)))
+    (any-cong _ _ 64 (λ i h. λ j. at-word a (k - 1) i h j && at-word b (k - 1) i h j) ∙ q)
+
+-- ---- what a set holds
+
+-- the empty set holds no line, as a read past its words is 0 too
+pub has-empty : (l : ℕ) → has empty l ≡ false
+unfolding has empty
+has-empty l = ap (λ (x : ℕ). place x (l % 64)) (zeros 0 words (l / 64)) ∙ zero-place (l % 64)
+  where
+    zeros : (z n k : ℕ) → getD (replicate n z) k z ≡ z
+    zeros z zero k = refl
+    zeros z (suc n) zero = refl
+    zeros z (suc n) (suc k) = zeros z n k
+
+pub length-with : (s : LineSet) (l : ℕ) → length (with s l .words) ≡ length (s .words)
+unfolding with
+length-with s l = length-set (s .words) (l / 64) _
+
+-- of two lines of one word, the places tell them apart
+same-line : (l m : ℕ) → m / 64 ≡ l / 64 → eqb (m % 64) (l % 64) ≡ eqb m l
+same-line l m e = go (ℕ-discrete m l)
+  where
+    go : Dec (m ≡ l) → eqb (m % 64) (l % 64) ≡ eqb m l
+    go (yes f) = eq-eqb _ _ (ap (λ (x : ℕ). x % 64) f) ∙ sym (eq-eqb m l f)
+    go (no n) = ne-eqb _ _ (λ (f : m % 64 ≡ l % 64). n (omega arith)) ∙ sym (ne-eqb m l n)
+
+-- what a set holds after a line was added
+pub has-with : (s : LineSet) (l m : ℕ) → l / 64 < length (s .words) → has (with s l) m ≡ (has s m || eqb m l)
+unfolding has with
+has-with s l m h = go (ℕ-discrete (m / 64) (l / 64))
+  where
+    go : Dec (m / 64 ≡ l / 64) → has (with s l) m ≡ (has s m || eqb m l)
+    go (yes e) =
+        ap (λ (x : ℕ). place x (m % 64)) (ap (word (with s l)) e ∙ getD-set-same (s .words) (l / 64) _ 0 h)
+        ∙ or-place (word s (l / 64)) (2 ^ (l % 64)) (m % 64)
+        ∙ (λ j. place (word s (sym e j)) (m % 64) || (power-place (l % 64) (m % 64) ∙ same-line l m e) j)
+    go (no n) =
+        ap (λ (x : ℕ). place x (m % 64)) (getD-set-other (s .words) (l / 64) (m / 64) _ 0 n)
+        ∙ sym (or-false (has s m)) ∙ ap (_||_ (has s m)) (sym (ne-eqb m l (λ f. n (ap (λ (x : ℕ). x / 64) f))))
+
+pub has-with-same : (s : LineSet) (l : ℕ) → l / 64 < length (s .words) → has (with s l) l ≡ true
+has-with-same s l h = has-with s l l h ∙ ap (_||_ (has s l)) (eq-eqb l l refl) ∙ or-true (has s l)
+
+-- a line past the words is not added
+with-out : (s : LineSet) (l : ℕ) → length (s .words) ≤ l / 64 → with s l ≡ s
+unfolding with
+with-out s l h = ap (λ (ws : List ℕ). record { words = ws }) (set-out (s .words) (l / 64) _ h)
+
+-- nothing changes at a line that is not the new one, or is there already
+with-same : (s : LineSet) (l m : ℕ) → (m ≡ l → has s m ≡ true) → has (with s l) m ≡ has s m
+with-same s l m p = go (decLt (l / 64) (length (s .words)))
+  where
+    or-left : (a b : Bool) → (b ≡ true → a ≡ true) → (a || b) ≡ a
+    or-left true b q = refl
+    or-left false true q = sym (q refl)
+    or-left false false q = refl
+
+    go : Dec (l / 64 < length (s .words)) → has (with s l) m ≡ has s m
+    go (yes h) = has-with s l m h ∙ or-left (has s m) (eqb m l) (λ q. p (eqb-true m l q))
+    go (no h) = ap (λ (t : LineSet). has t m) (with-out s l (omega arith))
+
+pub has-with-other : (s : LineSet) (l m : ℕ) → (m ≡ l → ⊥) → has (with s l) m ≡ has s m
+has-with-other s l m n = with-same s l m (λ e. absurd (n e))
+
+pub with-there : (s : LineSet) (l : ℕ) → has s l ≡ true → (m : ℕ) → has (with s l) m ≡ has s m
+with-there s l p m = with-same s l m (λ e. ap (has s) e ∙ p)
+
+-- ---- footprints
+
+pub footprint-empty : footprint empty empty ≡ 0
+unfolding footprint empty has place count-below
+footprint-empty = refl
+
+pub footprint-comm : (r w : LineSet) → footprint r w ≡ footprint w r
+unfolding footprint
+footprint-comm r w = count-cong (either r w) (either w r) lines (λ l h. or-comm (has r l) (has w l))
+
+-- a line that is in neither set counts, in whichever set it joins
+pub footprint-with-new : (r w : LineSet) (l : ℕ) → l < lines → l / 64 < length (r .words) → (has r l || has w l) ≡ false → footprint (with r l) w ≡ suc (footprint r w)
+unfolding footprint
+footprint-with-new r w l k h p =
+    count-one (either r w) (either (with r l) w) lines l k p (ap (λ (b : Bool). b || has w l) (has-with-same r l h))
+    (λ i t n. ap (λ (b : Bool). b || has w i) (has-with-other r l i n))
+
+pub footprint-with-new-write : (r w : LineSet) (l : ℕ) → l < lines → l / 64 < length (w .words) → (has r l || has w l) ≡ false → footprint r (with w l) ≡ suc (footprint r w)
+footprint-with-new-write r w l k h p =
+    footprint-comm r (with w l) ∙ footprint-with-new w r l k h (or-comm (has w l) (has r l) ∙ p) ∙ ap suc (footprint-comm w r)
+
+-- a line that is in either set is counted already
+pub footprint-with-old : (r w : LineSet) (l : ℕ) → (has r l || has w l) ≡ true → footprint (with r l) w ≡ footprint r w
+unfolding footprint
+footprint-with-old r w l p = count-cong (either (with r l) w) (either r w) lines (λ m h. go m (has w m) refl)
+  where
+    go : (m : ℕ) (b : Bool) → has w m ≡ b → (has (with r l) m || b) ≡ (has r m || b)
+    go m true e = or-true (has (with r l) m) ∙ sym (or-true (has r m))
+    go m false e =
+        ap (λ (b : Bool). b || false) (with-same r l m (λ q. sym (or-false (has r m)) ∙ ap (_||_ (has r m)) (sym e) ∙ ap (either r w) q ∙ p))
+
+pub footprint-with-old-write : (r w : LineSet) (l : ℕ) → (has r l || has w l) ≡ true → footprint r (with w l) ≡ footprint r w
+footprint-with-old-write r w l p =
+    footprint-comm r (with w l) ∙ footprint-with-old w r l (or-comm (has w l) (has r l) ∙ p) ∙ footprint-comm w r
+
+-- ---- meetings
+
+pub meets-at : (a b : LineSet) (l : ℕ) → has a l ≡ true → has b l ≡ true → l < lines → meets a b ≡ true
+unfolding meets
+meets-at a b l p q h = any-at (both a b) lines l (and-intro (has a l) (has b l) p q) h
+
+pub meets-none : (a b : LineSet) → ((l : ℕ) → l < lines → (has a l && has b l) ≡ false) → meets a b ≡ false
+unfolding meets
+meets-none a b p = any-false (both a b) lines p
+
+pub meets-false-at : (a b : LineSet) (l : ℕ) → meets a b ≡ false → l < lines → (has a l && has b l) ≡ false
+unfolding meets
+meets-false-at a b l p h = any-false-at (both a b) lines l p h
+
+pub meets-comm : (a b : LineSet) → meets a b ≡ meets b a
+unfolding meets
+meets-comm a b = any-cong (both a b) (both b a) lines (λ l h. and-comm (has a l) (has b l))

@@ -1,0 +1,76 @@
+// Sets of lines: one bit for each of 256 lines, in four words (document 01, "The machine").
+ghost use mathlib.Core.Path.{_≡_};
+ghost use Prim.Native.Nat.{_<_};
+ghost use Rattle.base.specs.Limits.{lines};
+ghost use Rattle.lines.specs.Lines.{empty, has, with, meets, footprint, joined, shared};
+use base::WORDS;
+
+pub struct LineSet {
+    pub words: [u64; WORDS],
+}
+
+pub fn empty() -> LineSet
+    ensures { λ r. ⌜ r ≡ empty ⌝ }
+{
+    LineSet { words: [0; WORDS] }
+}
+
+// The set holds the line.
+pub fn has(s: LineSet, line: usize) -> bool
+    requires { ⌜ line < lines ⌝ }
+    ensures { λ r. ⌜ r ≡ has s line ⌝ }
+{
+    let k = line / 64;
+    let w = s.words[k];
+    (w >> (line % 64)) % 2 == 1
+}
+
+// The set with one line more.
+pub fn with(s: LineSet, line: usize) -> LineSet
+    requires { ⌜ line < lines ⌝ }
+    ensures { λ r. ⌜ r ≡ with s line ⌝ }
+{
+    let k = line / 64;
+    let mut t = s;
+    t.words[k] = t.words[k] | (1 << (line % 64));
+    t
+}
+
+// Two words have a place that is set in both.
+fn shared(a: u64, b: u64) -> bool
+    ensures { λ r. ⌜ r ≡ shared a b ⌝ }
+{
+    a & b != 0
+}
+
+// Two sets have a line in common.
+pub fn meets(a: LineSet, b: LineSet) -> bool
+    ensures { λ r. ⌜ r ≡ meets a b ⌝ }
+{
+    let mut k = WORDS;
+    while 0 < k {
+        k -= 1;
+        if shared(a.words[k], b.words[k]) {
+            return true;
+        }
+    }
+    false
+}
+
+// How many places are set in either of two words.
+fn joined(a: u64, b: u64) -> u32
+    ensures { λ n. ⌜ n ≡ joined a b ⌝ }
+{
+    u64::count_ones(a | b)
+}
+
+// The number of lines in either set, counted once.
+pub fn footprint(r: LineSet, w: LineSet) -> u32
+    ensures { λ n. ⌜ n ≡ footprint r w ⌝ }
+{
+    let mut n = 0;
+    for k in 0..WORDS {
+        n += joined(r.words[k], w.words[k]);
+    }
+    n
+}

@@ -1,0 +1,53 @@
+-- The machine, and the fresh one (document 01, "The machine").
+use Prim.Native.Nat.{ℕ}
+use mathlib.Core.Bool.{Bool, true, false}
+use mathlib.Core.List.{List, []}
+use lib.ListN.{getD, replicate}
+use Rattle.base.specs.Limits.{line-size, lines, most-threads}
+use Rattle.lines.specs.declared.LineSet.{LineSet}
+use Rattle.transaction.specs.Transaction as transaction
+use Rattle.thread.specs.declared.Registers.{Registers}
+use Rattle.thread.specs.declared.State.the-variants.{N}
+use Rattle.thread.specs.declared.Control.{Control}
+use Rattle.thread.specs.declared.Thread.{Thread}
+use Rattle.machine.specs.declared.Machine.{Machine}
+
+-- control registers all zero but PR and TM
+abbrev pub no-control : Bool → Bool → Control
+no-control pr tm = record { nia = 0; pr = pr; tm = tm; state = N; doomed = false; tfhar = 0; tfiar = 0; texasr = 0 }
+
+-- what an index past the end of the records gives
+abbrev pub no-registers : Registers
+no-registers = record { gpr = []; cr = [] }
+
+abbrev pub no-lines : LineSet
+no-lines = record { words = [] }
+
+abbrev pub no-thread : Thread
+no-thread =
+    record {
+      live = no-registers;
+      cr0 = 0;
+      checkpoint = no-registers;
+      control = no-control false false;
+      transaction = record { reads = no-lines; writes = no-lines; count = 0; log = [] };
+    }
+
+abbrev pub thread : List Thread → ℕ → Thread
+thread ts w = getD ts w no-thread
+
+abbrev pub with-threads : Machine → List Thread → Machine
+with-threads m ts = record { count = m .count; threads = ts }
+
+-- a fresh machine: four threads, all N, PR = 1, TM = 1, all else zero, and 4,096 doublewords of memory, all zero
+abbrev pub zero-registers : Registers
+zero-registers = record { gpr = replicate 32 0; cr = replicate 7 0 }
+
+unfoldable pub fresh-thread : Thread
+fresh-thread = record { live = zero-registers; cr0 = 0; checkpoint = zero-registers; control = no-control true true; transaction = transaction.empty }
+
+unfoldable pub fresh : Machine
+fresh = record { count = most-threads; threads = replicate most-threads fresh-thread }
+
+abbrev pub fresh-memory : List ℕ
+fresh-memory = replicate 4096 0

@@ -1,0 +1,148 @@
+-- The valid machine, clause by clause (document 01, "The machine": "A machine is valid when ..").
+use Prim.Native.Nat.{ℕ, _*_, _/_, _%_}
+use mathlib.Core.Bool.{Bool, true, false, not, cond, _&&_, _||_, Bool·beq}
+use mathlib.Core.List.{List}
+use lib.Dec.{eqb, leb, ltb}
+use lib.ListN.{getD, length}
+use Rattle.base.specs.Limits.{line-size, lines, words, most-footprint, most-places, most-levels, most-threads}
+use Rattle.base.specs.Below.{all-below, any-below}
+use Rattle.lines.specs.Lines as lineset
+use Rattle.lines.specs.declared.LineSet.{LineSet}
+use Rattle.transaction.specs.Transaction.{entry, line, touches}
+use Rattle.transaction.specs.declared.Entry.{Entry}
+use Rattle.transaction.specs.declared.Transaction.{Transaction}
+use Rattle.thread.specs.Texasr.{fs, tl}
+use Rattle.thread.specs.Thread.{failed}
+use Rattle.thread.specs.declared.Registers.{Registers}
+use Rattle.thread.specs.declared.State.{State}
+use Rattle.thread.specs.declared.State.the-variants.{N, T, S}
+use Rattle.thread.specs.declared.Control.{Control}
+use Rattle.thread.specs.declared.Thread.{Thread}
+use Rattle.machine.specs.Machine.{thread}
+use Rattle.machine.specs.declared.Machine.{Machine}
+
+-- number 1: the length is a multiple of 16, from 16 to 4,096; one to four threads
+abbrev pub memory-sized : ℕ → Bool
+memory-sized len = eqb (len % line-size) 0 && leb line-size len && leb len (line-size * lines)
+
+unfoldable pub sized : Machine → ℕ → Bool
+sized m len = memory-sized len && leb 1 (m .count) && leb (m .count) most-threads
+
+-- the arrays have their lengths, as the code's types give them
+abbrev pub registers-shaped : Registers → Bool
+registers-shaped r = eqb (length (r .gpr)) 32 && eqb (length (r .cr)) 7
+
+unfoldable pub shaped : Thread → Bool
+shaped t =
+    registers-shaped (t .live) && registers-shaped (t .checkpoint)
+    && eqb (length (t .transaction .reads .words)) words
+    && eqb (length (t .transaction .writes .words)) words
+    && eqb (length (t .transaction .log)) most-places
+
+-- unused log places are zero
+abbrev pub zero-entry : Entry → Bool
+zero-entry e = eqb (e .index) 0 && eqb (e .value) 0
+
+unfoldable pub unused-zero : Transaction → Bool
+unused-zero x = leb (x .count) most-places && all-below (λ n. ltb n (x .count) || zero-entry (entry (x .log) n)) most-places
+
+-- NIA and TFHAR are multiples of 4
+unfoldable pub aligned : Control → Bool
+aligned k = eqb (k .nia % 4) 0 && eqb (k .tfhar % 4) 0
+
+-- CR fields are below 16
+unfoldable pub cr-small : Registers → Bool
+cr-small r = all-below (λ f. ltb (getD (r .cr) f 0) 16) 7
+
+unfoldable pub fields-small : Thread → Bool
+fields-small t = ltb (t .cr0) 16 && cr-small (t .live) && cr-small (t .checkpoint)
+
+-- sets and log are empty
+unfoldable pub no-line : LineSet → Bool
+no-line s = all-below (λ k. eqb (lineset.word s k) 0) words
+
+unfoldable pub holds-nothing : Transaction → Bool
+holds-nothing x = no-line (x .reads) && no-line (x .writes) && eqb (x .count) 0
+
+-- a live transaction: FS = 0, TL is 1 to 15, footprint at most 32
+unfoldable pub live-rules : Thread → Bool
+live-rules t =
+    eqb (fs (t .control .texasr)) 0
+    && leb 1 (tl (t .control .texasr))
+    && leb (tl (t .control .texasr)) most-levels
+    && leb (lineset.footprint (t .transaction .reads) (t .transaction .writes)) most-footprint
+
+-- what each state asks: in N, and in S with TDOOMED = 1, sets and log are empty; in N and T, TDOOMED = 0; in S with TDOOMED = 1, FS = 1
+unfoldable pub state-rules : State → Thread → Bool
+state-rules N t = not (t .control .doomed) && holds-nothing (t .transaction)
+state-rules T t = not (t .control .doomed) && live-rules t
+state-rules S t = cond (t .control .doomed) (holds-nothing (t .transaction) && failed (t .control)) (live-rules t)
+
+-- all indices and lines lie in memory
+unfoldable pub indices-inside : Transaction → ℕ → Bool
+indices-inside x len = all-below (λ n. ltb (entry (x .log) n .index) len) (x .count)
+
+unfoldable pub lines-inside : Transaction → ℕ → Bool
+lines-inside x len = all-below (λ l. not (touches x l) || ltb (l * line-size) len) lines
+
+-- log indices are distinct
+unfoldable pub distinct : Transaction → Bool
+distinct x = all-below (λ n. all-below (λ k. not (eqb (entry (x .log) k .index) (entry (x .log) n .index))) n) (x .count)
+
+-- a line is in the write set exactly when the log has an index in it
+unfoldable pub logs-line : Transaction → ℕ → Bool
+logs-line x l = any-below (λ n. eqb (line (entry (x .log) n .index)) l) (x .count)
+
+unfoldable pub writes-logged : Transaction → Bool
+writes-logged x = all-below (λ l. Bool·beq (lineset.has (x .writes) l) (logs-line x l)) lines
+
+unfoldable pub thread-valid : Thread → ℕ → Bool
+thread-valid t len =
+    shaped t
+    && unused-zero (t .transaction)
+    && aligned (t .control)
+    && fields-small t
+    && state-rules (t .control .state) t
+    && indices-inside (t .transaction) len
+    && lines-inside (t .transaction) len
+    && distinct (t .transaction)
+    && writes-logged (t .transaction)
+
+-- thread records past the count are all zero
+abbrev pub zero-registers : Registers → Bool
+zero-registers r = all-below (λ i. eqb (getD (r .gpr) i 0) 0) 32 && all-below (λ f. eqb (getD (r .cr) f 0) 0) 7
+
+abbrev pub zero-state : State → Bool
+zero-state N = true
+zero-state T = false
+zero-state S = false
+
+unfoldable pub zero-control : Control → Bool
+zero-control k =
+    eqb (k .nia) 0 && not (k .pr) && not (k .tm) && zero-state (k .state) && not (k .doomed) && eqb (k .tfhar) 0 && eqb (k .tfiar) 0 && eqb (k .texasr) 0
+
+unfoldable pub zero-thread : Thread → Bool
+zero-thread t =
+    shaped t
+    && zero-registers (t .live)
+    && eqb (t .cr0) 0
+    && zero-registers (t .checkpoint)
+    && zero-control (t .control)
+    && holds-nothing (t .transaction)
+    && unused-zero (t .transaction)
+
+-- no line of one thread's write set is in another thread's sets
+unfoldable pub clash : Transaction → Transaction → Bool
+clash x y = lineset.meets (x .writes) (y .reads) || lineset.meets (x .writes) (y .writes)
+
+unfoldable pub apart : Machine → Bool
+apart m =
+    all-below
+    (λ v. all-below (λ w. eqb v w || not (clash (thread (m .threads) v .transaction) (thread (m .threads) w .transaction))) most-threads)
+    most-threads
+
+unfoldable pub thread-right : Machine → ℕ → ℕ → Bool
+thread-right m len w = cond (ltb w (m .count)) (thread-valid (thread (m .threads) w) len) (zero-thread (thread (m .threads) w))
+
+unfoldable pub valid : Machine → ℕ → Bool
+valid m len = sized m len && eqb (length (m .threads)) most-threads && all-below (thread-right m len) most-threads && apart m

@@ -1,0 +1,34 @@
+-- The comparisons of tabortwc. and tabortdc. (document 01, "Events" 4 and 5).
+use Prim.Native.Nat.{ℕ, _+_, _-_, _*_, _/_, _%_}
+use mathlib.Core.Bool.{Bool, cond, _&&_, _||_}
+use lib.Dec.{eqb, ltb}
+
+-- a number below 2 × half with its sign turned over: signed numbers are ordered as these
+abbrev pub turned : ℕ → ℕ → ℕ
+turned half a = cond (ltb a half) (a + half) (a - half)
+
+-- TO chooses a comparison by its bit
+abbrev pub chosen : ℕ → ℕ → Bool
+chosen to w = eqb (to / w % 2) 1
+
+-- a chosen comparison holds: 16 signed less, 8 signed greater, 4 equal, 2 unsigned less, 1 unsigned greater
+unfoldable pub holds : ℕ → ℕ → ℕ → ℕ → Bool
+holds half to a b =
+    chosen to 16 && ltb (turned half a) (turned half b)
+    || chosen to 8 && ltb (turned half b) (turned half a)
+    || chosen to 4 && eqb a b
+    || chosen to 2 && ltb a b
+    || chosen to 1 && ltb b a
+
+-- the word form reads the low 32 bits, the doubleword form all 64
+abbrev pub word-half : ℕ
+word-half = 0x80000000
+
+abbrev pub doubleword-half : ℕ
+doubleword-half = 0x8000000000000000
+
+abbrev pub holds-in-words : ℕ → ℕ → ℕ → Bool
+holds-in-words to a b = holds word-half to (a % (2 * word-half)) (b % (2 * word-half))
+
+abbrev pub holds-in-doublewords : ℕ → ℕ → ℕ → Bool
+holds-in-doublewords to a b = holds doubleword-half to a b

@@ -1,0 +1,223 @@
+-- What each event that is not refused does to its own thread and to memory (document 01, "Events", and "Loads, stores and conflicts" (a), (b) and (d)).
+-- Clauses by state first. Where document 01 has a Bad Thing, the event is refused, and the clause here is never reached.
+use Prim.Native.Nat.{ℕ, _+_, _-_, _*_, _%_, _^_}
+use mathlib.Core.Bool.{Bool, true, false, not, cond, _&&_, _||_}
+use mathlib.Core.List.{List}
+use lib.ListN.{set}
+use lib.Dec.{eqb, leb, ltb}
+use Rattle.base.specs.Limits.{most-levels}
+use Rattle.base.specs.Below.{bit}
+use Rattle.transaction.specs.Transaction as transaction
+use Rattle.transaction.specs.declared.Transaction.{Transaction}
+use Rattle.thread.specs.Texasr.{rot, tl, upper, lower, begun, cause-disallowed, cause-nesting, cause-footprint, cause-self, cause-abort}
+use Rattle.thread.specs.Thread.{with-live, with-cr0, with-control, with-transaction, with-texasr, in-state, take-checkpoint, restore, failed, handling}
+use Rattle.thread.specs.declared.Registers.{Registers}
+use Rattle.thread.specs.declared.State.{State}
+use Rattle.thread.specs.declared.State.the-variants.{N, T, S}
+use Rattle.thread.specs.declared.Control.{Control}
+use Rattle.thread.specs.declared.Thread.{Thread}
+use Rattle.event.specs.declared.Event.{Event}
+use Rattle.event.specs.declared.Event.the-variants.{Tbegin, Tend, Tabort, Tabortwc, Tabortdc, Tsr, Tcheck, Treclaim, Trechkpt, Mtspr, Mfspr, Ld, Std, Addi, Disallowed, Interrupt, Host}
+use Rattle.own.specs.Own.{Ran, did, ran, next, advance, ts, cr0-from-state, gpr, put-gpr, gpr-or-0, own-recording, fails, dooms}
+use Rattle.own.specs.Compare.{holds-in-words, holds-in-doublewords}
+use Rattle.own.specs.declared.Did.{Did}
+
+-- CR0 from state, and on to the next instruction
+abbrev pub cr0-only : Thread → Did
+cr0-only t = did 0 (advance (cr0-from-state t))
+
+-- the same with TEXASR anew
+abbrev pub leveled : Thread → ℕ → Did
+leveled t x = did 0 (advance (cr0-from-state (with-control t (with-texasr (t .control) x))))
+
+-- 1. tbegin. (R)
+abbrev pub begins : Thread → Bool → Control
+begins t r =
+    record {
+      nia = t .control .nia;
+      pr = t .control .pr;
+      tm = t .control .tm;
+      state = T;
+      doomed = t .control .doomed;
+      tfhar = next (t .control .nia);
+      tfiar = t .control .tfiar;
+      texasr = begun (bit r);
+    }
+
+unfoldable pub tbegin : State → Thread → Bool → Did
+tbegin N t r = did 0 (advance (with-control (take-checkpoint (cr0-from-state t)) (begins t r)))
+tbegin T t r = cond (leb most-levels (tl (t .control .texasr))) (fails t cause-nesting) (leveled t (t .control .texasr + 1))
+tbegin S t r = cr0-only t
+
+-- 2. tend. (A): with A = 1 or TL = 1 every log value goes to its doubleword, TL = 0, sets and log emptied, state N
+abbrev pub outermost : Thread → Bool → Bool
+outermost t a = a || leb (tl (t .control .texasr)) 1
+
+abbrev pub ends : Thread → Thread
+ends t =
+    with-transaction
+    (with-control t (in-state (with-texasr (t .control) (t .control .texasr - tl (t .control .texasr))) N (t .control .doomed)))
+    (transaction.discard (t .transaction))
+
+unfoldable pub tend : State → Thread → Bool → List ℕ → Ran
+tend N t a mem = ran (cr0-only t) mem
+tend T t a mem =
+    cond (outermost t a)
+    (ran (did 0 (advance (with-cr0 (ends t) (ts T)))) (transaction.commit (t .transaction) mem))
+    (ran (leveled t (t .control .texasr - 1)) mem)
+tend S t a mem = ran (cr0-only t) mem
+
+-- 3. tabort. (RA): the cause by RA, recorded in T and S
+abbrev pub abort-cause : Thread → ℕ → ℕ
+abort-cause t ra = cause-abort (gpr-or-0 t ra % 2 ^ 8)
+
+unfoldable pub tabort : State → Thread → ℕ → Did
+tabort N t cause = cr0-only t
+tabort T t cause = fails t cause
+tabort S t cause = dooms (cr0-from-state t) cause
+
+-- 4, 5. tabortwc., tabortdc.: as tabort. with RA = 0 if a chosen comparison holds
+unfoldable pub tabort-if : Thread → Bool → Did
+tabort-if t held = cond held (tabort (t .control .state) t (cause-abort 0)) (cr0-only t)
+
+-- 6. tsr. (L): L = 0 is T to S; L = 1 is S to T, and handling if TDOOMED
+unfoldable pub tsuspend : State → Thread → Did
+tsuspend N t = cr0-only t
+tsuspend T t = did 0 (advance (with-control (cr0-from-state t) (in-state (t .control) S (t .control .doomed))))
+tsuspend S t = cr0-only t
+
+unfoldable pub tresume : State → Thread → Did
+tresume N t = cr0-only t
+tresume T t = cr0-only t
+tresume S t =
+    cond (t .control .doomed) (did 20 (handling t)) (did 0 (advance (with-control (cr0-from-state t) (in-state (t .control) T (t .control .doomed)))))
+
+unfoldable pub tsr : Thread → Bool → Did
+tsr t l = cond l (tresume (t .control .state) t) (tsuspend (t .control .state) t)
+
+-- 7. tcheck (BF): CR field BF = TDOOMED, TS, 0
+abbrev pub put-cr : Thread → ℕ → ℕ → Thread
+put-cr t bf f = cond (eqb bf 0) (with-cr0 t f) (with-live t (record { gpr = t .live .gpr; cr = set (t .live .cr) (bf - 1) f }))
+
+unfoldable pub tcheck : Thread → ℕ → Did
+tcheck t bf = did 0 (advance (put-cr t bf (bit (t .control .doomed) * 8 + ts (t .control .state))))
+
+-- 8. treclaim. (RA): records as tabort. does; registers and CR 1 to 7 from the checkpoint, CR0 from state, state N, TDOOMED = 0, sets and log emptied
+abbrev pub reclaims : Thread → Thread
+reclaims t = with-transaction (with-control (restore t) (in-state (t .control) N false)) (transaction.discard (t .transaction))
+
+unfoldable pub treclaim : Thread → ℕ → Did
+treclaim t ra = did 0 (advance (with-cr0 (reclaims (own-recording t (abort-cause t ra))) (ts (t .control .state))))
+
+-- 9. trechkpt.: checkpoint taken, CR0 = 0, state S, TDOOMED = 1
+unfoldable pub trechkpt : Thread → Did
+trechkpt t = did 0 (advance (with-control (with-cr0 (take-checkpoint t) 0) (in-state (t .control) S true)))
+
+-- 10. mtspr (SPR, RA): 128 TFHAR, low two bits cleared; 129 TFIAR; 130 TEXASR; 131 the upper half of TEXASR from the low 32 bits
+abbrev pub special : Control → ℕ → ℕ → ℕ → Control
+special k tfhar tfiar texasr =
+    record { nia = k .nia; pr = k .pr; tm = k .tm; state = k .state; doomed = k .doomed; tfhar = tfhar; tfiar = tfiar; texasr = texasr }
+
+unfoldable pub put-spr : Control → ℕ → ℕ → Control
+put-spr k spr v =
+    cond (eqb spr 128) (special k (v - v % 4) (k .tfiar) (k .texasr))
+    (cond (eqb spr 129) (special k (k .tfhar) v (k .texasr))
+    (cond (eqb spr 130) (special k (k .tfhar) (k .tfiar) v)
+    (special k (k .tfhar) (k .tfiar) (lower v * 2 ^ 32 + lower (k .texasr)))))
+
+unfoldable pub mtspr : Thread → ℕ → ℕ → Did
+mtspr t spr ra = did 0 (advance (with-control t (put-spr (t .control) spr (gpr t ra))))
+
+-- 11. mfspr (RT, SPR): 131 gives the upper half; 129 gives 0 if PR = 1 and TFIAR's lowest bit is 0
+unfoldable pub get-spr : Control → ℕ → ℕ
+get-spr k spr =
+    cond (eqb spr 128) (k .tfhar)
+    (cond (eqb spr 129) (cond (k .pr && eqb (k .tfiar % 2) 0) 0 (k .tfiar))
+    (cond (eqb spr 130) (k .texasr)
+    (upper (k .texasr))))
+
+unfoldable pub mfspr : Thread → ℕ → ℕ → Did
+mfspr t rt spr = did 0 (advance (put-gpr t rt (get-spr (t .control) spr)))
+
+-- (a) overflow, only in T; a load with ROT = 1 adds no line
+abbrev pub tracked : Thread → Bool
+tracked t = eqb (rot (t .control .texasr)) 0
+
+unfoldable pub ld-overflows : State → Thread → ℕ → Bool
+ld-overflows N t i = false
+ld-overflows T t i = tracked t && transaction.load-overflows (t .transaction) i
+ld-overflows S t i = false
+
+unfoldable pub std-overflows : State → Thread → ℕ → Bool
+std-overflows N t i = false
+std-overflows T t i = transaction.store-overflows (t .transaction) i
+std-overflows S t i = false
+
+-- 12. ld (RT, index): (a), then (d): the log's value if one is there, else memory's; in T the line joins the read set unless ROT
+abbrev pub takes : Thread → ℕ → ℕ → List ℕ → Thread
+takes t rt i mem = put-gpr t rt (transaction.load (t .transaction) mem i)
+
+abbrev pub joins : Thread → ℕ → Thread
+joins t i = with-transaction t (cond (tracked t) (transaction.join (t .transaction) i) (t .transaction))
+
+unfoldable pub ld : State → Thread → ℕ → ℕ → List ℕ → Did
+ld N t rt i mem = did 0 (advance (takes t rt i mem))
+ld T t rt i mem = cond (ld-overflows T t i) (fails t cause-footprint) (did 0 (advance (takes (joins t i) rt i mem)))
+ld S t rt i mem = did 0 (advance (takes t rt i mem))
+
+-- 13. std (RA, index): (a); (b) in S a store to a line in the thread's own sets; (d): in T to the log, else to memory
+unfoldable pub std : State → Thread → ℕ → ℕ → List ℕ → Ran
+std N t v i mem = ran (did 0 (advance t)) (set mem i v)
+std T t v i mem =
+    cond (std-overflows T t i)
+    (ran (fails t cause-footprint) mem)
+    (ran (did 0 (advance (with-transaction t (transaction.store (t .transaction) i v)))) mem)
+std S t v i mem = ran (cond (transaction.touches (t .transaction) (transaction.line i)) (dooms t cause-self) (did 0 (advance t))) (set mem i v)
+
+-- 14. addi (RT, RA, SI): RA (0 if RA = 0) plus SI sign-extended from 16 bits
+abbrev pub extended : ℕ → ℕ
+extended si = cond (ltb si 0x8000) si (si + (2 ^ 64 - 2 ^ 16))
+
+unfoldable pub addi : Thread → ℕ → ℕ → ℕ → Did
+addi t rt ra si = did 0 (advance (put-gpr t rt ((gpr-or-0 t ra + extended si) % 2 ^ 64)))
+
+-- 15. a disallowed instruction
+unfoldable pub disallowed : State → Thread → Did
+disallowed N t = did 0 (advance t)
+disallowed T t = fails t cause-disallowed
+disallowed S t = did 0 (advance t)
+
+-- 16. interrupt taken: T to S; PR = 0, TM = 0; NIA kept. 17. the host sets PR and TM; NIA kept
+abbrev pub at-level : Control → State → Bool → Bool → Control
+at-level k s pr tm = record { nia = k .nia; pr = pr; tm = tm; state = s; doomed = k .doomed; tfhar = k .tfhar; tfiar = k .tfiar; texasr = k .texasr }
+
+abbrev pub interrupted : State → State
+interrupted N = N
+interrupted T = S
+interrupted S = S
+
+unfoldable pub interrupt : Thread → Did
+interrupt t = did 0 (with-control t (at-level (t .control) (interrupted (t .control .state)) false false))
+
+unfoldable pub host : Thread → Bool → Bool → Did
+host t pr tm = did 0 (with-control t (at-level (t .control) (t .control .state) pr tm))
+
+-- the event on its own thread
+unfoldable pub own : Event → Thread → List ℕ → Ran
+own (Tbegin r) t mem = ran (tbegin (t .control .state) t r) mem
+own (Tend a) t mem = tend (t .control .state) t a mem
+own (Tabort ra) t mem = ran (tabort (t .control .state) t (abort-cause t ra)) mem
+own (Tabortwc to ra rb) t mem = ran (tabort-if t (holds-in-words to (gpr t ra) (gpr t rb))) mem
+own (Tabortdc to ra rb) t mem = ran (tabort-if t (holds-in-doublewords to (gpr t ra) (gpr t rb))) mem
+own (Tsr l) t mem = ran (tsr t l) mem
+own (Tcheck bf) t mem = ran (tcheck t bf) mem
+own (Treclaim ra) t mem = ran (treclaim t ra) mem
+own Trechkpt t mem = ran (trechkpt t) mem
+own (Mtspr spr ra) t mem = ran (mtspr t spr ra) mem
+own (Mfspr rt spr) t mem = ran (mfspr t rt spr) mem
+own (Ld rt i) t mem = ran (ld (t .control .state) t rt i mem) mem
+own (Std ra i) t mem = std (t .control .state) t (gpr t ra) i mem
+own (Addi rt ra si) t mem = ran (addi t rt ra si) mem
+own Disallowed t mem = ran (disallowed (t .control .state) t) mem
+own Interrupt t mem = ran (interrupt t) mem
+own (Host pr tm) t mem = ran (host t pr tm) mem

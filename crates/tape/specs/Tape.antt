@@ -1,0 +1,66 @@
+-- One record of 16 bytes, read and written (document 01, "The tape").
+use Prim.Native.Nat.{ℕ, _+_, _*_, _/_, _%_}
+use mathlib.Core.Bool.{Bool, not, cond, _&&_}
+use mathlib.Core.List.{List, [], _∷_}
+use lib.Dec.{eqb, ltb}
+use lib.ListN.{getD, length}
+use lib.Seq.{sets}
+use Rattle.event.specs.declared.Event.{Event}
+use Rattle.tape.specs.Fields.{Fields, kind-right, unused-clear, event-of, fields-of}
+use Rattle.tape.specs.declared.Read.{Read}
+use Rattle.tape.specs.declared.Read.the-variants.{Record, Refused}
+
+abbrev pub record-size : ℕ
+record-size = 16
+
+abbrev pub first-byte : ℕ
+first-byte = 0xE3
+
+abbrev pub byte : List ℕ → ℕ → ℕ
+byte bs n = getD bs n 0
+
+-- numbers of two and four bytes, highest first
+abbrev pub two : ℕ → ℕ → ℕ
+two a b = a * 256 + b
+
+abbrev pub four : ℕ → ℕ → ℕ → ℕ → ℕ
+four a b c d = a * 0x1000000 + b * 0x10000 + c * 0x100 + d
+
+-- 0xE3, kind, thread, X, RA, RB, flags, 0, index in four bytes, SI in two bytes, 0, 0
+unfoldable pub fields-at : List ℕ → Fields
+fields-at bs =
+    record {
+      kind = byte bs 1;
+      thread = byte bs 2;
+      x = byte bs 3;
+      ra = byte bs 4;
+      rb = byte bs 5;
+      flags = byte bs 6;
+      index = four (byte bs 8) (byte bs 9) (byte bs 10) (byte bs 11);
+      si = two (byte bs 12) (byte bs 13);
+    }
+
+abbrev pub fixed-zero : List ℕ → Bool
+fixed-zero bs = eqb (byte bs 7) 0 && eqb (byte bs 14) 0 && eqb (byte bs 15) 0
+
+unfoldable pub bytes : Fields → List ℕ
+bytes f =
+    first-byte ∷ f .kind ∷ f .thread ∷ f .x ∷ f .ra ∷ f .rb ∷ f .flags ∷ 0
+    ∷ f .index / 256 / 256 / 256 % 256 ∷ f .index / 256 / 256 % 256 ∷ f .index / 256 % 256 ∷ f .index % 256
+    ∷ f .si / 256 % 256 ∷ f .si % 256 ∷ 0 ∷ 0 ∷ []
+
+-- the reader: the numbers 6, 7, 8, 9 in their order, or the thread and the event
+unfoldable pub read : List ℕ → Read
+read bs =
+    cond (not (eqb (length bs) record-size)) (Refused 6)
+    (cond (not (eqb (byte bs 0) first-byte)) (Refused 7)
+    (cond (not (kind-right (byte bs 1))) (Refused 8)
+    (cond (not (fixed-zero bs && unused-clear (fields-at bs))) (Refused 9)
+    (Record (byte bs 2) (event-of (fields-at bs))))))
+
+-- the writer: number 10 for a buffer under 16 bytes, which stays; else the first 16 bytes
+unfoldable pub write-answer : List ℕ → ℕ
+write-answer buf = cond (ltb (length buf) record-size) 10 0
+
+unfoldable pub write : ℕ → Event → List ℕ → List ℕ
+write w e buf = cond (ltb (length buf) record-size) buf (sets buf 0 (bytes (fields-of w e)))

@@ -1,0 +1,77 @@
+-- Laws of TEXASR's fields, of recording and of handling.
+use mathlib.Core.Path.{_≡_, refl, sym, ap, _∙_}
+use mathlib.Core.Bool.{Bool, true, false, cond}
+use Prim.Native.Nat.{ℕ, _+_, _*_, _%_, _<_, _^_}
+use native.Mathlib.Omega.{arith}
+use borrow.Author.Tests.{eq-eqb, eqb-true, eqb-false, ne-eqb}
+use lib.Dec.{eqb}
+use Rattle.base.specs.Below.{bit}
+use Rattle.thread.specs.Texasr.{fs, rot, tl, upper, packed, begun}
+use Rattle.thread.specs.Thread.{failed, suspended, noted, recording, handling}
+use Rattle.thread.specs.declared.State.{State}
+use Rattle.thread.specs.declared.State.the-variants.{N, T, S}
+use Rattle.thread.specs.declared.Control.{Control}
+use Rattle.thread.specs.declared.Thread.{Thread}
+
+pub bit-lt : (b : Bool) → bit b < 2
+bit-lt true = omega arith
+bit-lt false = omega arith
+
+pub suspended-lt : (s : State) → suspended s < 2
+suspended-lt N = omega arith
+suspended-lt T = omega arith
+suspended-lt S = omega arith
+
+-- each field of a packed TEXASR is what was put there
+module _ (cause s p e r l : ℕ) (hs : s < 2) (hp : p < 2) (he : e < 2) (hr : r < 2) (hl : l < 2 ^ 12) where
+  pub packed-fs : fs (packed cause s p e r l) ≡ 1
+  packed-fs = omega arith
+
+  pub packed-rot : rot (packed cause s p e r l) ≡ r
+  packed-rot = omega arith
+
+  pub packed-tl : tl (packed cause s p e r l) ≡ l
+  packed-tl = omega arith
+
+  pub packed-upper : upper (packed cause s p e r l) ≡ cause
+  packed-upper = omega arith
+
+-- what an outermost tbegin. leaves: FS = 0, level 1, ROT as asked
+pub begun-fs : (b : Bool) → fs (begun (bit b)) ≡ 0
+begun-fs true = refl
+begun-fs false = refl
+
+pub begun-tl : (b : Bool) → tl (begun (bit b)) ≡ 1
+begun-tl true = refl
+begun-tl false = refl
+
+pub begun-rot : (b : Bool) → rot (begun (bit b)) ≡ bit b
+begun-rot true = refl
+begun-rot false = refl
+
+-- a noted failure has FS = 1, and keeps ROT and TL
+module _ (k : Control) (cause : ℕ) (exact : Bool) (at : ℕ) where
+  pub noted-failed : failed (noted k cause exact at) ≡ true
+  noted-failed =
+      eq-eqb _ 1
+      (packed-fs cause (suspended (k .state)) (bit (k .pr)) (bit exact) (rot (k .texasr)) (tl (k .texasr)) (suspended-lt (k .state)) (bit-lt (k .pr)) (bit-lt exact)
+      (omega arith) (omega arith))
+
+  pub noted-tl : tl (noted k cause exact at .texasr) ≡ tl (k .texasr)
+  noted-tl =
+      packed-tl cause (suspended (k .state)) (bit (k .pr)) (bit exact) (rot (k .texasr)) (tl (k .texasr)) (suspended-lt (k .state)) (bit-lt (k .pr)) (bit-lt exact)
+      (omega arith) (omega arith)
+
+-- a second failure leaves the first; the first is recorded
+pub recording-again : (t : Thread) (cause : ℕ) (exact : Bool) (at : ℕ) → failed (t .control) ≡ true → recording t cause exact at ≡ t
+unfolding recording
+recording-again t cause exact at p = simp p
+
+-- after recording FS = 1, whatever it was
+pub recording-failed : (t : Thread) (cause : ℕ) (exact : Bool) (at : ℕ) → failed (recording t cause exact at .control) ≡ true
+unfolding recording
+recording-failed t cause exact at = go (failed (t .control)) refl
+  where
+    go : (b : Bool) → failed (t .control) ≡ b → failed (recording t cause exact at .control) ≡ true
+    go true p = ap (λ (u : Thread). failed (u .control)) (recording-again t cause exact at p) ∙ p
+    go false p = simp p (noted-failed (t .control) cause exact at)

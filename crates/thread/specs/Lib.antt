@@ -1,0 +1,2 @@
+pub mod Texasr
+pub mod Thread

@@ -1,0 +1,55 @@
+-- TEXASR's fields, with bit 0 the highest of 64 (document 01, "TEXASR").
+use Prim.Native.Nat.{ℕ, _+_, _-_, _*_, _/_, _%_, _^_}
+
+-- the weight of bit b
+abbrev pub weight : ℕ → ℕ
+weight b = 2 ^ (63 - b)
+
+-- failure summary FS, ROT, level TL
+abbrev pub fs : ℕ → ℕ
+fs x = x / weight 36 % 2
+
+abbrev pub rot : ℕ → ℕ
+rot x = x / weight 38 % 2
+
+abbrev pub tl : ℕ → ℕ
+tl x = x % 2 ^ 12
+
+-- the upper half, and the lower
+abbrev pub upper : ℕ → ℕ
+upper x = x / 2 ^ 32
+
+abbrev pub lower : ℕ → ℕ
+lower x = x % 2 ^ 32
+
+-- a level and ROT, and all else 0: what an outermost tbegin. leaves
+abbrev pub begun : ℕ → ℕ
+begun r = r * weight 38 + 1
+
+-- a failure: its cause in the upper half; suspended, PR, FS = 1, exact, ROT, TL
+abbrev pub packed : (cause suspended pr exact r level : ℕ) → ℕ
+packed cause suspended pr exact r level =
+    cause * 2 ^ 32 + suspended * weight 32 + pr * weight 35 + weight 36 + exact * weight 37 + r * weight 38 + level
+
+-- the causes of document 01, each a 32-bit number for the upper half
+abbrev pub cause-disallowed : ℕ
+cause-disallowed = 0x00800000
+
+abbrev pub cause-nesting : ℕ
+cause-nesting = 0x00400000
+
+abbrev pub cause-footprint : ℕ
+cause-footprint = 0x00200000
+
+abbrev pub cause-self : ℕ
+cause-self = 0x00100000
+
+abbrev pub cause-plain-conflict : ℕ
+cause-plain-conflict = 0x00080000
+
+abbrev pub cause-conflict : ℕ
+cause-conflict = 0x00040000
+
+-- an abort with a failure code: the code in bits 0:7, and bit 31
+abbrev pub cause-abort : ℕ → ℕ
+cause-abort code = code * 2 ^ 24 + 1

@@ -1,0 +1,196 @@
+// One thread: live registers and checkpoint, control registers, transaction; recording and handling of a failure (document 01, "The machine", "TEXASR").
+ghost use mathlib.Core.Path.{_≡_};
+ghost use Prim.Native.Nat.{_<_, _≤_, _^_};
+ghost use Rattle.thread.specs.Texasr.{fs, rot, tl, packed};
+ghost use Rattle.thread.specs.Thread.{in-state, take-checkpoint, restore, failed, suspended, noted, recording, handling};
+use transaction::Transaction;
+
+// 32 general registers, and CR fields 1 to 7: cr[0] is field 1. CR0 stands apart, since no checkpoint holds it.
+pub struct Registers {
+    pub gpr: [u64; 32],
+    pub cr: [u8; 7],
+}
+
+// Non-transactional, Transactional, Suspended.
+pub enum State {
+    N,
+    T,
+    S,
+}
+
+pub struct Control {
+    pub nia: u64,
+    pub pr: bool,
+    pub tm: bool,
+    pub state: State,
+    pub doomed: bool,
+    pub tfhar: u64,
+    pub tfiar: u64,
+    pub texasr: u64,
+}
+
+pub struct Thread {
+    pub live: Registers,
+    pub cr0: u8,
+    pub checkpoint: Registers,
+    pub control: Control,
+    pub transaction: Transaction,
+}
+
+// The causes that are recorded, each for the upper half of TEXASR.
+pub const DISALLOWED: u64 = 0x0080_0000;
+
+pub const NESTING: u64 = 0x0040_0000;
+
+pub const OVERFLOW: u64 = 0x0020_0000;
+
+pub const SELF_CONFLICT: u64 = 0x0010_0000;
+
+pub const PLAIN_CONFLICT: u64 = 0x0008_0000;
+
+pub const CONFLICT: u64 = 0x0004_0000;
+
+// The weights of TEXASR's bits 32 (suspended), 35 (PR), 36 (FS), 37 (exact) and 38 (ROT), with bit 0 the highest, and of what lies above the level.
+const SUSPENDED: u64 = 0x8000_0000;
+
+const PROBLEM: u64 = 0x1000_0000;
+
+const SUMMARY: u64 = 0x0800_0000;
+
+const EXACT: u64 = 0x0400_0000;
+
+const ROT: u64 = 0x0200_0000;
+
+const LEVEL: u64 = 0x1000;
+
+const UPPER: u64 = 0x1_0000_0000;
+
+// TEXASR's ROT bit and its level.
+pub fn rot(x: u64) -> u64
+    ensures { λ r. ⌜ r ≡ rot x ⌝ }
+    ensures { λ r. ⌜ r < 2 ⌝ }
+{
+    x / ROT % 2
+}
+
+pub fn tl(x: u64) -> u64
+    ensures { λ r. ⌜ r ≡ tl x ⌝ }
+    ensures { λ r. ⌜ r < 2 ^ 12 ⌝ }
+{
+    x % LEVEL
+}
+
+// A failure's TEXASR: the cause in the upper half, FS = 1.
+pub fn packed(cause: u64, suspended: u64, pr: u64, exact: u64, r: u64, level: u64) -> u64
+    requires { ⌜ cause < 2 ^ 32 ⌝ }
+    requires { ⌜ (suspended < 2) × (pr < 2) × (exact < 2) × (r < 2) × (level < 2 ^ 12) ⌝ }
+    ensures { λ x. ⌜ x ≡ packed cause suspended pr exact r level ⌝ }
+{
+    cause * UPPER + suspended * SUSPENDED + pr * PROBLEM + SUMMARY + exact * EXACT + r * ROT + level
+}
+
+// The control registers in another state, with TDOOMED.
+pub fn in_state(k: Control, s: State, doomed: bool) -> Control
+    ensures { λ r. ⌜ r ≡ in-state k s doomed ⌝ }
+{
+    Control {
+        nia: k.nia,
+        pr: k.pr,
+        tm: k.tm,
+        state: s,
+        doomed,
+        tfhar: k.tfhar,
+        tfiar: k.tfiar,
+        texasr: k.texasr,
+    }
+}
+
+// FS = 1.
+pub fn failed(k: Control) -> bool
+    ensures { λ r. ⌜ r ≡ failed k ⌝ }
+{
+    k.texasr / SUMMARY % 2 == 1
+}
+
+fn suspended(s: State) -> u64
+    ensures { λ r. ⌜ r ≡ suspended s ⌝ }
+    ensures { λ r. ⌜ r < 2 ⌝ }
+{
+    match s {
+        State::N => 0,
+        State::T => 0,
+        State::S => 1,
+    }
+}
+
+// The checkpoint taken.
+pub fn take_checkpoint(t: Thread) -> Thread
+    ensures { λ r. ⌜ r ≡ take-checkpoint t ⌝ }
+{
+    let live = t.live;
+    let mut u = t;
+    u.checkpoint = live;
+    u
+}
+
+// Registers and CR 1 to 7 from the checkpoint: CR0 stands apart and stays.
+pub fn restore(t: Thread) -> Thread
+    ensures { λ r. ⌜ r ≡ restore t ⌝ }
+{
+    let checkpoint = t.checkpoint;
+    let mut u = t;
+    u.live = checkpoint;
+    u
+}
+
+// The control registers with a cause noted for an instruction's address.
+fn noted(k: Control, cause: u64, exact: bool, at: u64) -> Control
+    requires { ⌜ cause < 2 ^ 32 ⌝ }
+    ensures { λ r. ⌜ r ≡ noted k cause exact at ⌝ }
+{
+    let s = k.state;
+    let old = k.texasr;
+    let pr = base::bit(k.pr);
+    let texasr = packed(cause, suspended(s), pr, base::bit(exact), rot(old), tl(old));
+    Control {
+        nia: k.nia,
+        pr: k.pr,
+        tm: k.tm,
+        state: s,
+        doomed: true,
+        tfhar: k.tfhar,
+        tfiar: at - at % 4 + pr,
+        texasr,
+    }
+}
+
+// A cause recorded for an instruction's address, only if FS = 0: a second failure leaves the first.
+pub fn recording(t: Thread, cause: u64, exact: bool, at: u64) -> Thread
+    requires { ⌜ cause < 2 ^ 32 ⌝ }
+    ensures { λ r. ⌜ r ≡ recording t cause exact at ⌝ }
+{
+    let k = t.control;
+    if failed(k) {
+        return t;
+    }
+    let control = noted(k, cause, exact, at);
+    let x = t.transaction;
+    let transaction = transaction::discard(x);
+    let mut u = t;
+    u.control = control;
+    u.transaction = transaction;
+    u
+}
+
+// A failure handled: the checkpoint put back, CR0 = 0b1010, on at TFHAR in N.
+pub fn handling(t: Thread) -> Thread
+    ensures { λ r. ⌜ r ≡ handling t ⌝ }
+{
+    let k = t.control;
+    let mut control = in_state(k, State::N, false);
+    control.nia = k.tfhar;
+    let mut u = restore(t);
+    u.control = control;
+    u.cr0 = 0b1010;
+    u
+}

@@ -1,0 +1,22 @@
+-- `transaction::full` meets its contract, by the cases of the lookup.
+use borrow.Author.Needs.{needs}
+use Rattle.transaction.specs.Transaction.{full}
+use Rattle.transaction.proofs.full.Statement.{statement}
+use Rattle.transaction.proofs.full.Tie as tie
+
+enum-told : tie.Need-enum-told
+enum-told c = search needs
+
+enum-told-2 : tie.Need-enum-told-2
+enum-told-2 c = search needs
+
+returns : tie.Need-returns
+unfolding full
+returns c = rw (c .enum-told .given .1)
+
+returns-2 : tie.Need-returns-2
+unfolding full
+returns-2 c = rw (c .before .enum-told2 .given .1)
+
+pub full-spec : {M : Type 1} → statement M
+full-spec = tie.close (tie.spec enum-told enum-told-2 returns returns-2)

@@ -1,0 +1,88 @@
+-- What a transaction holds: read set, write set and log (document 01, "The machine"), and what loads, stores, commit and discard do to it
+-- ("Loads, stores and conflicts", (a) and (d); tend.).
+use Prim.Native.Nat.{ℕ, zero, suc, _+_, _/_}
+use mathlib.Core.Bool.{Bool, true, false, not, cond, _&&_, _||_}
+use mathlib.Core.List.{List}
+use lib.ListN.{getD, set, replicate}
+use lib.Dec.{eqb, leb}
+use Rattle.base.specs.Limits.{line-size, most-footprint, most-places}
+use Rattle.lines.specs.Lines as lines
+use Rattle.transaction.specs.declared.Entry.{Entry}
+use Rattle.transaction.specs.declared.Transaction.{Transaction}
+use Rattle.transaction.specs.declared.Found.{Found}
+use Rattle.transaction.specs.declared.Found.the-variants.{At, Absent}
+
+-- a place that is not used
+abbrev pub no-entry : Entry
+no-entry = record { index = 0; value = 0 }
+
+abbrev pub entry : List Entry → ℕ → Entry
+entry es n = getD es n no-entry
+
+-- the line of a doubleword
+abbrev pub line : ℕ → ℕ
+line i = i / line-size
+
+unfoldable pub empty : Transaction
+empty = record { reads = lines.empty; writes = lines.empty; count = 0; log = replicate most-places no-entry }
+
+-- sets and log emptied
+unfoldable pub discard : Transaction → Transaction
+discard x = empty
+
+-- the place of doubleword i among the first n
+unfoldable pub lookup-in : List Entry → ℕ → ℕ → Found
+lookup-in es i zero = Absent
+lookup-in es i (suc n) = cond (eqb (entry es n .index) i) (At n) (lookup-in es i n)
+
+abbrev pub lookup : Transaction → ℕ → Found
+lookup x i = lookup-in (x .log) i (x .count)
+
+-- (d) a load gives the log's value for the doubleword if one is there, else memory's
+unfoldable pub loaded : List Entry → List ℕ → Found → ℕ → ℕ
+loaded es mem (At n) i = entry es n .value
+loaded es mem Absent i = getD mem i 0
+
+abbrev pub load : Transaction → List ℕ → ℕ → ℕ
+load x mem i = loaded (x .log) mem (lookup x i) i
+
+-- the line is in one of the sets
+abbrev pub touches : Transaction → ℕ → Bool
+touches x l = lines.has (x .reads) l || lines.has (x .writes) l
+
+-- (a) the access must add a new line while the footprint is 32
+unfoldable pub crowded : Transaction → ℕ → Bool
+crowded x l = not (touches x l) && leb most-footprint (lines.footprint (x .reads) (x .writes))
+
+-- (a) a store needs a new log place while 64 are used
+unfoldable pub full : Transaction → Found → Bool
+full x (At n) = false
+full x Absent = leb most-places (x .count)
+
+abbrev pub load-overflows : Transaction → ℕ → Bool
+load-overflows x i = crowded x (line i)
+
+abbrev pub store-overflows : Transaction → ℕ → Bool
+store-overflows x i = crowded x (line i) || full x (lookup x i)
+
+-- (d) a load adds its line to the read set
+abbrev pub join : Transaction → ℕ → Transaction
+join x i = record { reads = lines.with (x .reads) (line i); writes = x .writes; count = x .count; log = x .log }
+
+-- (d) a store goes to the log, replacing a value already there, and adds its line to the write set
+unfoldable pub store-at : Transaction → Found → ℕ → ℕ → Transaction
+store-at x (At n) i v =
+    record { reads = x .reads; writes = lines.with (x .writes) (line i); count = x .count; log = set (x .log) n (record { index = i; value = v }) }
+store-at x Absent i v =
+    record { reads = x .reads; writes = lines.with (x .writes) (line i); count = x .count + 1; log = set (x .log) (x .count) (record { index = i; value = v }) }
+
+abbrev pub store : Transaction → ℕ → ℕ → Transaction
+store x i v = store-at x (lookup x i) i v
+
+-- tend.: every log value goes to its doubleword; memory after the first n places
+unfoldable pub commit-in : List ℕ → List Entry → ℕ → List ℕ
+commit-in mem es zero = mem
+commit-in mem es (suc n) = set (commit-in mem es n) (entry es n .index) (entry es n .value)
+
+abbrev pub commit : Transaction → List ℕ → List ℕ
+commit x mem = commit-in mem (x .log) (x .count)
