@@ -5,13 +5,13 @@ use Rattle.base.specs.Below.{all-below, any-below, count-below}
 use Rattle.lines.specs.Lines as lineset
 use Rattle.transaction.specs.Transaction as transaction
 use Rattle.thread.specs.Thread.{recording, handling}
-use Rattle.event.specs.Event.{kind}
+use Rattle.event.specs.Event.{kind, operands-right}
 use Rattle.own.specs.Own.{fails, dooms}
 use Rattle.own.specs.Compare as compare
-use Rattle.own.specs.Events.{own, tbegin, tend, tabort, tabort-if, tsuspend, tresume, tsr, ld-overflows, std-overflows, ld, std, addi, disallowed, host}
+use Rattle.own.specs.Events.{own, tbegin, tend, tabort, tabort-if, tsuspend, tresume, tsr, ld-overflows, std-overflows, ld, logs, meets-own, std, addi, disallowed, host}
 use Rattle.machine.specs.Machine.{fresh, fresh-thread}
 use Rattle.machine.specs.Valid as valid
-use Rattle.machine.specs.Refusal.{operands-right, bad-thing, refused-there, refusal}
+use Rattle.machine.specs.Refusal.{bad-thing, refused-there, refusal}
 use Rattle.machine.specs.Conflict.{struck, strike, others}
 use Rattle.machine.specs.Step.{perform, step, feed}
 use Rattle.bench.specs.Bench.{met, all-met, holds, all-hold, table, k1, k2, k3, k4, k5, k6, k6-done, k7, k7-done, k8, k9, k10, k10-not}
@@ -20,12 +20,10 @@ k1-holds : holds k1 ≡ true
 unfolding all-below any-below count-below
     lineset.place lineset.empty lineset.has lineset.with lineset.meets lineset.footprint
     transaction.empty transaction.discard transaction.lookup-in transaction.loaded transaction.crowded transaction.full transaction.store-at
-    recording handling kind fails dooms compare.holds
-    own tbegin tend tabort tabort-if tsuspend tresume tsr ld-overflows std-overflows ld std addi disallowed host
+    recording handling kind fails dooms compare.holds compare.picked
+    own tbegin tend tabort tabort-if tsuspend tresume tsr ld-overflows std-overflows ld logs meets-own std addi disallowed host
     fresh fresh-thread
-    valid.sized valid.shaped valid.unused-zero valid.aligned valid.cr-small valid.fields-small valid.no-line valid.holds-nothing valid.live-rules valid.state-rules
-    valid.indices-inside valid.lines-inside valid.distinct valid.logs-line valid.writes-logged valid.thread-valid valid.zero-control valid.zero-thread
-    valid.clash valid.apart valid.thread-right valid.valid
+    valid.sized valid.shaped valid.place-right valid.unused-zero valid.aligned valid.cr-small valid.fields-small valid.no-line valid.holds-nothing valid.live-rules valid.state-rules valid.indices-inside valid.line-inside valid.lines-inside valid.unlike valid.distinct valid.logs-line valid.line-logged valid.writes-logged valid.held-right valid.thread-valid valid.zero-gpr valid.zero-cr valid.zero-control valid.zero-thread valid.clash valid.clear-of valid.apart valid.thread-right valid.threads-right valid.valid
     operands-right bad-thing refused-there refusal struck strike others perform step feed met all-met holds
 k1-holds = refl
 
@@ -33,12 +31,10 @@ k2-holds : holds k2 ≡ true
 unfolding all-below any-below count-below
     lineset.place lineset.empty lineset.has lineset.with lineset.meets lineset.footprint
     transaction.empty transaction.discard transaction.lookup-in transaction.loaded transaction.crowded transaction.full transaction.store-at
-    recording handling kind fails dooms compare.holds
-    own tbegin tend tabort tabort-if tsuspend tresume tsr ld-overflows std-overflows ld std addi disallowed host
+    recording handling kind fails dooms compare.holds compare.picked
+    own tbegin tend tabort tabort-if tsuspend tresume tsr ld-overflows std-overflows ld logs meets-own std addi disallowed host
     fresh fresh-thread
-    valid.sized valid.shaped valid.unused-zero valid.aligned valid.cr-small valid.fields-small valid.no-line valid.holds-nothing valid.live-rules valid.state-rules
-    valid.indices-inside valid.lines-inside valid.distinct valid.logs-line valid.writes-logged valid.thread-valid valid.zero-control valid.zero-thread
-    valid.clash valid.apart valid.thread-right valid.valid
+    valid.sized valid.shaped valid.place-right valid.unused-zero valid.aligned valid.cr-small valid.fields-small valid.no-line valid.holds-nothing valid.live-rules valid.state-rules valid.indices-inside valid.line-inside valid.lines-inside valid.unlike valid.distinct valid.logs-line valid.line-logged valid.writes-logged valid.held-right valid.thread-valid valid.zero-gpr valid.zero-cr valid.zero-control valid.zero-thread valid.clash valid.clear-of valid.apart valid.thread-right valid.threads-right valid.valid
     operands-right bad-thing refused-there refusal struck strike others perform step feed met all-met holds
 k2-holds = refl
 
@@ -46,12 +42,10 @@ k3-holds : holds k3 ≡ true
 unfolding all-below any-below count-below
     lineset.place lineset.empty lineset.has lineset.with lineset.meets lineset.footprint
     transaction.empty transaction.discard transaction.lookup-in transaction.loaded transaction.crowded transaction.full transaction.store-at
-    recording handling kind fails dooms compare.holds
-    own tbegin tend tabort tabort-if tsuspend tresume tsr ld-overflows std-overflows ld std addi disallowed host
+    recording handling kind fails dooms compare.holds compare.picked
+    own tbegin tend tabort tabort-if tsuspend tresume tsr ld-overflows std-overflows ld logs meets-own std addi disallowed host
     fresh fresh-thread
-    valid.sized valid.shaped valid.unused-zero valid.aligned valid.cr-small valid.fields-small valid.no-line valid.holds-nothing valid.live-rules valid.state-rules
-    valid.indices-inside valid.lines-inside valid.distinct valid.logs-line valid.writes-logged valid.thread-valid valid.zero-control valid.zero-thread
-    valid.clash valid.apart valid.thread-right valid.valid
+    valid.sized valid.shaped valid.place-right valid.unused-zero valid.aligned valid.cr-small valid.fields-small valid.no-line valid.holds-nothing valid.live-rules valid.state-rules valid.indices-inside valid.line-inside valid.lines-inside valid.unlike valid.distinct valid.logs-line valid.line-logged valid.writes-logged valid.held-right valid.thread-valid valid.zero-gpr valid.zero-cr valid.zero-control valid.zero-thread valid.clash valid.clear-of valid.apart valid.thread-right valid.threads-right valid.valid
     operands-right bad-thing refused-there refusal struck strike others perform step feed met all-met holds
 k3-holds = refl
 
@@ -59,12 +53,10 @@ k4-holds : holds k4 ≡ true
 unfolding all-below any-below count-below
     lineset.place lineset.empty lineset.has lineset.with lineset.meets lineset.footprint
     transaction.empty transaction.discard transaction.lookup-in transaction.loaded transaction.crowded transaction.full transaction.store-at
-    recording handling kind fails dooms compare.holds
-    own tbegin tend tabort tabort-if tsuspend tresume tsr ld-overflows std-overflows ld std addi disallowed host
+    recording handling kind fails dooms compare.holds compare.picked
+    own tbegin tend tabort tabort-if tsuspend tresume tsr ld-overflows std-overflows ld logs meets-own std addi disallowed host
     fresh fresh-thread
-    valid.sized valid.shaped valid.unused-zero valid.aligned valid.cr-small valid.fields-small valid.no-line valid.holds-nothing valid.live-rules valid.state-rules
-    valid.indices-inside valid.lines-inside valid.distinct valid.logs-line valid.writes-logged valid.thread-valid valid.zero-control valid.zero-thread
-    valid.clash valid.apart valid.thread-right valid.valid
+    valid.sized valid.shaped valid.place-right valid.unused-zero valid.aligned valid.cr-small valid.fields-small valid.no-line valid.holds-nothing valid.live-rules valid.state-rules valid.indices-inside valid.line-inside valid.lines-inside valid.unlike valid.distinct valid.logs-line valid.line-logged valid.writes-logged valid.held-right valid.thread-valid valid.zero-gpr valid.zero-cr valid.zero-control valid.zero-thread valid.clash valid.clear-of valid.apart valid.thread-right valid.threads-right valid.valid
     operands-right bad-thing refused-there refusal struck strike others perform step feed met all-met holds
 k4-holds = refl
 
@@ -72,12 +64,10 @@ k5-holds : holds k5 ≡ true
 unfolding all-below any-below count-below
     lineset.place lineset.empty lineset.has lineset.with lineset.meets lineset.footprint
     transaction.empty transaction.discard transaction.lookup-in transaction.loaded transaction.crowded transaction.full transaction.store-at
-    recording handling kind fails dooms compare.holds
-    own tbegin tend tabort tabort-if tsuspend tresume tsr ld-overflows std-overflows ld std addi disallowed host
+    recording handling kind fails dooms compare.holds compare.picked
+    own tbegin tend tabort tabort-if tsuspend tresume tsr ld-overflows std-overflows ld logs meets-own std addi disallowed host
     fresh fresh-thread
-    valid.sized valid.shaped valid.unused-zero valid.aligned valid.cr-small valid.fields-small valid.no-line valid.holds-nothing valid.live-rules valid.state-rules
-    valid.indices-inside valid.lines-inside valid.distinct valid.logs-line valid.writes-logged valid.thread-valid valid.zero-control valid.zero-thread
-    valid.clash valid.apart valid.thread-right valid.valid
+    valid.sized valid.shaped valid.place-right valid.unused-zero valid.aligned valid.cr-small valid.fields-small valid.no-line valid.holds-nothing valid.live-rules valid.state-rules valid.indices-inside valid.line-inside valid.lines-inside valid.unlike valid.distinct valid.logs-line valid.line-logged valid.writes-logged valid.held-right valid.thread-valid valid.zero-gpr valid.zero-cr valid.zero-control valid.zero-thread valid.clash valid.clear-of valid.apart valid.thread-right valid.threads-right valid.valid
     operands-right bad-thing refused-there refusal struck strike others perform step feed met all-met holds
 k5-holds = refl
 
@@ -85,12 +75,10 @@ k6-holds : holds k6 ≡ true
 unfolding all-below any-below count-below
     lineset.place lineset.empty lineset.has lineset.with lineset.meets lineset.footprint
     transaction.empty transaction.discard transaction.lookup-in transaction.loaded transaction.crowded transaction.full transaction.store-at
-    recording handling kind fails dooms compare.holds
-    own tbegin tend tabort tabort-if tsuspend tresume tsr ld-overflows std-overflows ld std addi disallowed host
+    recording handling kind fails dooms compare.holds compare.picked
+    own tbegin tend tabort tabort-if tsuspend tresume tsr ld-overflows std-overflows ld logs meets-own std addi disallowed host
     fresh fresh-thread
-    valid.sized valid.shaped valid.unused-zero valid.aligned valid.cr-small valid.fields-small valid.no-line valid.holds-nothing valid.live-rules valid.state-rules
-    valid.indices-inside valid.lines-inside valid.distinct valid.logs-line valid.writes-logged valid.thread-valid valid.zero-control valid.zero-thread
-    valid.clash valid.apart valid.thread-right valid.valid
+    valid.sized valid.shaped valid.place-right valid.unused-zero valid.aligned valid.cr-small valid.fields-small valid.no-line valid.holds-nothing valid.live-rules valid.state-rules valid.indices-inside valid.line-inside valid.lines-inside valid.unlike valid.distinct valid.logs-line valid.line-logged valid.writes-logged valid.held-right valid.thread-valid valid.zero-gpr valid.zero-cr valid.zero-control valid.zero-thread valid.clash valid.clear-of valid.apart valid.thread-right valid.threads-right valid.valid
     operands-right bad-thing refused-there refusal struck strike others perform step feed met all-met holds
 k6-holds = refl
 
@@ -98,12 +86,10 @@ k6-done-holds : holds k6-done ≡ true
 unfolding all-below any-below count-below
     lineset.place lineset.empty lineset.has lineset.with lineset.meets lineset.footprint
     transaction.empty transaction.discard transaction.lookup-in transaction.loaded transaction.crowded transaction.full transaction.store-at
-    recording handling kind fails dooms compare.holds
-    own tbegin tend tabort tabort-if tsuspend tresume tsr ld-overflows std-overflows ld std addi disallowed host
+    recording handling kind fails dooms compare.holds compare.picked
+    own tbegin tend tabort tabort-if tsuspend tresume tsr ld-overflows std-overflows ld logs meets-own std addi disallowed host
     fresh fresh-thread
-    valid.sized valid.shaped valid.unused-zero valid.aligned valid.cr-small valid.fields-small valid.no-line valid.holds-nothing valid.live-rules valid.state-rules
-    valid.indices-inside valid.lines-inside valid.distinct valid.logs-line valid.writes-logged valid.thread-valid valid.zero-control valid.zero-thread
-    valid.clash valid.apart valid.thread-right valid.valid
+    valid.sized valid.shaped valid.place-right valid.unused-zero valid.aligned valid.cr-small valid.fields-small valid.no-line valid.holds-nothing valid.live-rules valid.state-rules valid.indices-inside valid.line-inside valid.lines-inside valid.unlike valid.distinct valid.logs-line valid.line-logged valid.writes-logged valid.held-right valid.thread-valid valid.zero-gpr valid.zero-cr valid.zero-control valid.zero-thread valid.clash valid.clear-of valid.apart valid.thread-right valid.threads-right valid.valid
     operands-right bad-thing refused-there refusal struck strike others perform step feed met all-met holds
 k6-done-holds = refl
 
@@ -111,12 +97,10 @@ k7-holds : holds k7 ≡ true
 unfolding all-below any-below count-below
     lineset.place lineset.empty lineset.has lineset.with lineset.meets lineset.footprint
     transaction.empty transaction.discard transaction.lookup-in transaction.loaded transaction.crowded transaction.full transaction.store-at
-    recording handling kind fails dooms compare.holds
-    own tbegin tend tabort tabort-if tsuspend tresume tsr ld-overflows std-overflows ld std addi disallowed host
+    recording handling kind fails dooms compare.holds compare.picked
+    own tbegin tend tabort tabort-if tsuspend tresume tsr ld-overflows std-overflows ld logs meets-own std addi disallowed host
     fresh fresh-thread
-    valid.sized valid.shaped valid.unused-zero valid.aligned valid.cr-small valid.fields-small valid.no-line valid.holds-nothing valid.live-rules valid.state-rules
-    valid.indices-inside valid.lines-inside valid.distinct valid.logs-line valid.writes-logged valid.thread-valid valid.zero-control valid.zero-thread
-    valid.clash valid.apart valid.thread-right valid.valid
+    valid.sized valid.shaped valid.place-right valid.unused-zero valid.aligned valid.cr-small valid.fields-small valid.no-line valid.holds-nothing valid.live-rules valid.state-rules valid.indices-inside valid.line-inside valid.lines-inside valid.unlike valid.distinct valid.logs-line valid.line-logged valid.writes-logged valid.held-right valid.thread-valid valid.zero-gpr valid.zero-cr valid.zero-control valid.zero-thread valid.clash valid.clear-of valid.apart valid.thread-right valid.threads-right valid.valid
     operands-right bad-thing refused-there refusal struck strike others perform step feed met all-met holds
 k7-holds = refl
 
@@ -124,12 +108,10 @@ k7-done-holds : holds k7-done ≡ true
 unfolding all-below any-below count-below
     lineset.place lineset.empty lineset.has lineset.with lineset.meets lineset.footprint
     transaction.empty transaction.discard transaction.lookup-in transaction.loaded transaction.crowded transaction.full transaction.store-at
-    recording handling kind fails dooms compare.holds
-    own tbegin tend tabort tabort-if tsuspend tresume tsr ld-overflows std-overflows ld std addi disallowed host
+    recording handling kind fails dooms compare.holds compare.picked
+    own tbegin tend tabort tabort-if tsuspend tresume tsr ld-overflows std-overflows ld logs meets-own std addi disallowed host
     fresh fresh-thread
-    valid.sized valid.shaped valid.unused-zero valid.aligned valid.cr-small valid.fields-small valid.no-line valid.holds-nothing valid.live-rules valid.state-rules
-    valid.indices-inside valid.lines-inside valid.distinct valid.logs-line valid.writes-logged valid.thread-valid valid.zero-control valid.zero-thread
-    valid.clash valid.apart valid.thread-right valid.valid
+    valid.sized valid.shaped valid.place-right valid.unused-zero valid.aligned valid.cr-small valid.fields-small valid.no-line valid.holds-nothing valid.live-rules valid.state-rules valid.indices-inside valid.line-inside valid.lines-inside valid.unlike valid.distinct valid.logs-line valid.line-logged valid.writes-logged valid.held-right valid.thread-valid valid.zero-gpr valid.zero-cr valid.zero-control valid.zero-thread valid.clash valid.clear-of valid.apart valid.thread-right valid.threads-right valid.valid
     operands-right bad-thing refused-there refusal struck strike others perform step feed met all-met holds
 k7-done-holds = refl
 
@@ -137,12 +119,10 @@ k8-holds : holds k8 ≡ true
 unfolding all-below any-below count-below
     lineset.place lineset.empty lineset.has lineset.with lineset.meets lineset.footprint
     transaction.empty transaction.discard transaction.lookup-in transaction.loaded transaction.crowded transaction.full transaction.store-at
-    recording handling kind fails dooms compare.holds
-    own tbegin tend tabort tabort-if tsuspend tresume tsr ld-overflows std-overflows ld std addi disallowed host
+    recording handling kind fails dooms compare.holds compare.picked
+    own tbegin tend tabort tabort-if tsuspend tresume tsr ld-overflows std-overflows ld logs meets-own std addi disallowed host
     fresh fresh-thread
-    valid.sized valid.shaped valid.unused-zero valid.aligned valid.cr-small valid.fields-small valid.no-line valid.holds-nothing valid.live-rules valid.state-rules
-    valid.indices-inside valid.lines-inside valid.distinct valid.logs-line valid.writes-logged valid.thread-valid valid.zero-control valid.zero-thread
-    valid.clash valid.apart valid.thread-right valid.valid
+    valid.sized valid.shaped valid.place-right valid.unused-zero valid.aligned valid.cr-small valid.fields-small valid.no-line valid.holds-nothing valid.live-rules valid.state-rules valid.indices-inside valid.line-inside valid.lines-inside valid.unlike valid.distinct valid.logs-line valid.line-logged valid.writes-logged valid.held-right valid.thread-valid valid.zero-gpr valid.zero-cr valid.zero-control valid.zero-thread valid.clash valid.clear-of valid.apart valid.thread-right valid.threads-right valid.valid
     operands-right bad-thing refused-there refusal struck strike others perform step feed met all-met holds
 k8-holds = refl
 
@@ -150,12 +130,10 @@ k9-holds : holds k9 ≡ true
 unfolding all-below any-below count-below
     lineset.place lineset.empty lineset.has lineset.with lineset.meets lineset.footprint
     transaction.empty transaction.discard transaction.lookup-in transaction.loaded transaction.crowded transaction.full transaction.store-at
-    recording handling kind fails dooms compare.holds
-    own tbegin tend tabort tabort-if tsuspend tresume tsr ld-overflows std-overflows ld std addi disallowed host
+    recording handling kind fails dooms compare.holds compare.picked
+    own tbegin tend tabort tabort-if tsuspend tresume tsr ld-overflows std-overflows ld logs meets-own std addi disallowed host
     fresh fresh-thread
-    valid.sized valid.shaped valid.unused-zero valid.aligned valid.cr-small valid.fields-small valid.no-line valid.holds-nothing valid.live-rules valid.state-rules
-    valid.indices-inside valid.lines-inside valid.distinct valid.logs-line valid.writes-logged valid.thread-valid valid.zero-control valid.zero-thread
-    valid.clash valid.apart valid.thread-right valid.valid
+    valid.sized valid.shaped valid.place-right valid.unused-zero valid.aligned valid.cr-small valid.fields-small valid.no-line valid.holds-nothing valid.live-rules valid.state-rules valid.indices-inside valid.line-inside valid.lines-inside valid.unlike valid.distinct valid.logs-line valid.line-logged valid.writes-logged valid.held-right valid.thread-valid valid.zero-gpr valid.zero-cr valid.zero-control valid.zero-thread valid.clash valid.clear-of valid.apart valid.thread-right valid.threads-right valid.valid
     operands-right bad-thing refused-there refusal struck strike others perform step feed met all-met holds
 k9-holds = refl
 
@@ -163,12 +141,10 @@ k10-holds : holds k10 ≡ true
 unfolding all-below any-below count-below
     lineset.place lineset.empty lineset.has lineset.with lineset.meets lineset.footprint
     transaction.empty transaction.discard transaction.lookup-in transaction.loaded transaction.crowded transaction.full transaction.store-at
-    recording handling kind fails dooms compare.holds
-    own tbegin tend tabort tabort-if tsuspend tresume tsr ld-overflows std-overflows ld std addi disallowed host
+    recording handling kind fails dooms compare.holds compare.picked
+    own tbegin tend tabort tabort-if tsuspend tresume tsr ld-overflows std-overflows ld logs meets-own std addi disallowed host
     fresh fresh-thread
-    valid.sized valid.shaped valid.unused-zero valid.aligned valid.cr-small valid.fields-small valid.no-line valid.holds-nothing valid.live-rules valid.state-rules
-    valid.indices-inside valid.lines-inside valid.distinct valid.logs-line valid.writes-logged valid.thread-valid valid.zero-control valid.zero-thread
-    valid.clash valid.apart valid.thread-right valid.valid
+    valid.sized valid.shaped valid.place-right valid.unused-zero valid.aligned valid.cr-small valid.fields-small valid.no-line valid.holds-nothing valid.live-rules valid.state-rules valid.indices-inside valid.line-inside valid.lines-inside valid.unlike valid.distinct valid.logs-line valid.line-logged valid.writes-logged valid.held-right valid.thread-valid valid.zero-gpr valid.zero-cr valid.zero-control valid.zero-thread valid.clash valid.clear-of valid.apart valid.thread-right valid.threads-right valid.valid
     operands-right bad-thing refused-there refusal struck strike others perform step feed met all-met holds
 k10-holds = refl
 
@@ -176,12 +152,10 @@ k10-not-holds : holds k10-not ≡ true
 unfolding all-below any-below count-below
     lineset.place lineset.empty lineset.has lineset.with lineset.meets lineset.footprint
     transaction.empty transaction.discard transaction.lookup-in transaction.loaded transaction.crowded transaction.full transaction.store-at
-    recording handling kind fails dooms compare.holds
-    own tbegin tend tabort tabort-if tsuspend tresume tsr ld-overflows std-overflows ld std addi disallowed host
+    recording handling kind fails dooms compare.holds compare.picked
+    own tbegin tend tabort tabort-if tsuspend tresume tsr ld-overflows std-overflows ld logs meets-own std addi disallowed host
     fresh fresh-thread
-    valid.sized valid.shaped valid.unused-zero valid.aligned valid.cr-small valid.fields-small valid.no-line valid.holds-nothing valid.live-rules valid.state-rules
-    valid.indices-inside valid.lines-inside valid.distinct valid.logs-line valid.writes-logged valid.thread-valid valid.zero-control valid.zero-thread
-    valid.clash valid.apart valid.thread-right valid.valid
+    valid.sized valid.shaped valid.place-right valid.unused-zero valid.aligned valid.cr-small valid.fields-small valid.no-line valid.holds-nothing valid.live-rules valid.state-rules valid.indices-inside valid.line-inside valid.lines-inside valid.unlike valid.distinct valid.logs-line valid.line-logged valid.writes-logged valid.held-right valid.thread-valid valid.zero-gpr valid.zero-cr valid.zero-control valid.zero-thread valid.clash valid.clear-of valid.apart valid.thread-right valid.threads-right valid.valid
     operands-right bad-thing refused-there refusal struck strike others perform step feed met all-met holds
 k10-not-holds = refl
 

@@ -6,44 +6,11 @@ use Rattle.thread.specs.Thread.{failed}
 use Rattle.thread.specs.declared.State.{State}
 use Rattle.thread.specs.declared.State.the-variants.{N, T, S}
 use Rattle.thread.specs.declared.Control.{Control}
-use Rattle.event.specs.Event.{kind, tm-instruction, privileged}
+use Rattle.event.specs.Event.{kind, tm-instruction, privileged, operands-right}
 use Rattle.event.specs.declared.Event.{Event}
-use Rattle.event.specs.declared.Event.the-variants.{Tbegin, Tend, Tabort, Tabortwc, Tabortdc, Tsr, Tcheck, Treclaim, Trechkpt, Mtspr, Mfspr, Ld, Std, Addi, Disallowed, Interrupt, Host}
 use Rattle.machine.specs.Machine.{thread}
 use Rattle.machine.specs.Valid.{sized, valid}
 use Rattle.machine.specs.declared.Machine.{Machine}
-
--- number 4: used registers to 31, BF to 7, TO to 31, SPR 128 to 131, the index in memory
-abbrev pub register-right : ℕ → Bool
-register-right r = ltb r 32
-
-abbrev pub spr-right : ℕ → Bool
-spr-right spr = leb 128 spr && leb spr 131
-
-abbrev pub compare-right : ℕ → ℕ → ℕ → Bool
-compare-right to ra rb = ltb to 32 && register-right ra && register-right rb
-
-abbrev pub access-right : ℕ → ℕ → ℕ → Bool
-access-right r i len = register-right r && ltb i len
-
-unfoldable pub operands-right : Event → ℕ → Bool
-operands-right (Tbegin r) len = true
-operands-right (Tend a) len = true
-operands-right (Tabort ra) len = register-right ra
-operands-right (Tabortwc to ra rb) len = compare-right to ra rb
-operands-right (Tabortdc to ra rb) len = compare-right to ra rb
-operands-right (Tsr l) len = true
-operands-right (Tcheck bf) len = ltb bf 8
-operands-right (Treclaim ra) len = register-right ra
-operands-right Trechkpt len = true
-operands-right (Mtspr spr ra) len = spr-right spr && register-right ra
-operands-right (Mfspr rt spr) len = register-right rt && spr-right spr
-operands-right (Ld rt i) len = access-right rt i len
-operands-right (Std ra i) len = access-right ra i len
-operands-right (Addi rt ra si) len = register-right rt && register-right ra
-operands-right Disallowed len = true
-operands-right Interrupt len = true
-operands-right (Host pr tm) len = true
 
 -- number 5: event 17 in T
 abbrev pub in-t : State → Bool

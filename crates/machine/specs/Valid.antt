@@ -11,7 +11,7 @@ use Rattle.lines.specs.declared.LineSet.{LineSet}
 use Rattle.transaction.specs.Transaction.{entry, line, touches}
 use Rattle.transaction.specs.declared.Entry.{Entry}
 use Rattle.transaction.specs.declared.Transaction.{Transaction}
-use Rattle.thread.specs.Texasr.{fs, tl}
+use Rattle.thread.specs.Texasr.{tl}
 use Rattle.thread.specs.Thread.{failed}
 use Rattle.thread.specs.declared.Registers.{Registers}
 use Rattle.thread.specs.declared.State.{State}
@@ -40,11 +40,11 @@ shaped t =
     && eqb (length (t .transaction .log)) most-places
 
 -- unused log places are zero
-abbrev pub zero-entry : Entry → Bool
-zero-entry e = eqb (e .index) 0 && eqb (e .value) 0
+unfoldable pub place-right : Entry → ℕ → ℕ → Bool
+place-right e n count = ltb n count || eqb (e .index) 0 && eqb (e .value) 0
 
 unfoldable pub unused-zero : Transaction → Bool
-unused-zero x = leb (x .count) most-places && all-below (λ n. ltb n (x .count) || zero-entry (entry (x .log) n)) most-places
+unused-zero x = leb (x .count) most-places && all-below (λ n. place-right (entry (x .log) n) n (x .count)) most-places
 
 -- NIA and TFHAR are multiples of 4
 unfoldable pub aligned : Control → Bool
@@ -67,7 +67,7 @@ holds-nothing x = no-line (x .reads) && no-line (x .writes) && eqb (x .count) 0
 -- a live transaction: FS = 0, TL is 1 to 15, footprint at most 32
 unfoldable pub live-rules : Thread → Bool
 live-rules t =
-    eqb (fs (t .control .texasr)) 0
+    not (failed (t .control))
     && leb 1 (tl (t .control .texasr))
     && leb (tl (t .control .texasr)) most-levels
     && leb (lineset.footprint (t .transaction .reads) (t .transaction .writes)) most-footprint
@@ -82,35 +82,44 @@ state-rules S t = cond (t .control .doomed) (holds-nothing (t .transaction) && f
 unfoldable pub indices-inside : Transaction → ℕ → Bool
 indices-inside x len = all-below (λ n. ltb (entry (x .log) n .index) len) (x .count)
 
-unfoldable pub lines-inside : Transaction → ℕ → Bool
-lines-inside x len = all-below (λ l. not (touches x l) || ltb (l * line-size) len) lines
+unfoldable pub line-inside : Transaction → ℕ → ℕ → Bool
+line-inside x l len = ltb (l * line-size) len || not (touches x l)
 
--- log indices are distinct
+unfoldable pub lines-inside : Transaction → ℕ → Bool
+lines-inside x len = all-below (λ l. line-inside x l len) lines
+
+-- log indices are distinct: each is none of those before it
+unfoldable pub unlike : Transaction → ℕ → Bool
+unlike x n = all-below (λ k. not (eqb (entry (x .log) k .index) (entry (x .log) n .index))) n
+
 unfoldable pub distinct : Transaction → Bool
-distinct x = all-below (λ n. all-below (λ k. not (eqb (entry (x .log) k .index) (entry (x .log) n .index))) n) (x .count)
+distinct x = all-below (unlike x) (x .count)
 
 -- a line is in the write set exactly when the log has an index in it
 unfoldable pub logs-line : Transaction → ℕ → Bool
 logs-line x l = any-below (λ n. eqb (line (entry (x .log) n .index)) l) (x .count)
 
+unfoldable pub line-logged : Transaction → ℕ → Bool
+line-logged x l = Bool·beq (lineset.has (x .writes) l) (logs-line x l)
+
 unfoldable pub writes-logged : Transaction → Bool
-writes-logged x = all-below (λ l. Bool·beq (lineset.has (x .writes) l) (logs-line x l)) lines
+writes-logged x = all-below (line-logged x) lines
+
+unfoldable pub held-right : Transaction → ℕ → Bool
+held-right x len = unused-zero x && indices-inside x len && lines-inside x len && distinct x && writes-logged x
 
 unfoldable pub thread-valid : Thread → ℕ → Bool
-thread-valid t len =
-    shaped t
-    && unused-zero (t .transaction)
-    && aligned (t .control)
-    && fields-small t
-    && state-rules (t .control .state) t
-    && indices-inside (t .transaction) len
-    && lines-inside (t .transaction) len
-    && distinct (t .transaction)
-    && writes-logged (t .transaction)
+thread-valid t len = shaped t && aligned (t .control) && fields-small t && state-rules (t .control .state) t && held-right (t .transaction) len
 
 -- thread records past the count are all zero
+unfoldable pub zero-gpr : Registers → Bool
+zero-gpr r = all-below (λ i. eqb (getD (r .gpr) i 0) 0) 32
+
+unfoldable pub zero-cr : Registers → Bool
+zero-cr r = all-below (λ f. eqb (getD (r .cr) f 0) 0) 7
+
 abbrev pub zero-registers : Registers → Bool
-zero-registers r = all-below (λ i. eqb (getD (r .gpr) i 0) 0) 32 && all-below (λ f. eqb (getD (r .cr) f 0) 0) 7
+zero-registers r = zero-gpr r && zero-cr r
 
 abbrev pub zero-state : State → Bool
 zero-state N = true
@@ -119,7 +128,7 @@ zero-state S = false
 
 unfoldable pub zero-control : Control → Bool
 zero-control k =
-    eqb (k .nia) 0 && not (k .pr) && not (k .tm) && zero-state (k .state) && not (k .doomed) && eqb (k .tfhar) 0 && eqb (k .tfiar) 0 && eqb (k .texasr) 0
+    eqb (k .nia) 0 && not (k .pr) && not (k .tm) && not (k .doomed) && eqb (k .tfhar) 0 && eqb (k .tfiar) 0 && eqb (k .texasr) 0 && zero-state (k .state)
 
 unfoldable pub zero-thread : Thread → Bool
 zero-thread t =
@@ -135,14 +144,19 @@ zero-thread t =
 unfoldable pub clash : Transaction → Transaction → Bool
 clash x y = lineset.meets (x .writes) (y .reads) || lineset.meets (x .writes) (y .writes)
 
+unfoldable pub clear-of : Machine → ℕ → Bool
+clear-of m v =
+    all-below (λ w. eqb v w || not (clash (thread (m .threads) v .transaction) (thread (m .threads) w .transaction))) most-threads
+
 unfoldable pub apart : Machine → Bool
-apart m =
-    all-below
-    (λ v. all-below (λ w. eqb v w || not (clash (thread (m .threads) v .transaction) (thread (m .threads) w .transaction))) most-threads)
-    most-threads
+apart m = all-below (clear-of m) most-threads
 
 unfoldable pub thread-right : Machine → ℕ → ℕ → Bool
 thread-right m len w = cond (ltb w (m .count)) (thread-valid (thread (m .threads) w) len) (zero-thread (thread (m .threads) w))
 
+unfoldable pub threads-right : Machine → ℕ → Bool
+threads-right m len = all-below (thread-right m len) most-threads
+
+-- all of it, with the sizes that number 1 tests
 unfoldable pub valid : Machine → ℕ → Bool
-valid m len = sized m len && eqb (length (m .threads)) most-threads && all-below (thread-right m len) most-threads && apart m
+valid m len = sized m len && eqb (length (m .threads)) most-threads && threads-right m len && apart m

@@ -1,4 +1,5 @@
 // The machine: one to four threads over a lent memory (document 01, "The machine").
+
 use base::THREADS;
 use thread::Thread;
 

@@ -7,18 +7,18 @@ use lib.Dec.{eqb, ltb}
 abbrev pub turned : ℕ → ℕ → ℕ
 turned half a = cond (ltb a half) (a + half) (a - half)
 
--- TO chooses a comparison by its bit
-abbrev pub chosen : ℕ → ℕ → Bool
-chosen to w = eqb (to / w % 2) 1
+-- a comparison that TO chooses by its bit w, and that holds
+unfoldable pub picked : ℕ → ℕ → Bool → Bool
+picked to w test = eqb (to / w % 2) 1 && test
 
 -- a chosen comparison holds: 16 signed less, 8 signed greater, 4 equal, 2 unsigned less, 1 unsigned greater
 unfoldable pub holds : ℕ → ℕ → ℕ → ℕ → Bool
 holds half to a b =
-    chosen to 16 && ltb (turned half a) (turned half b)
-    || chosen to 8 && ltb (turned half b) (turned half a)
-    || chosen to 4 && eqb a b
-    || chosen to 2 && ltb a b
-    || chosen to 1 && ltb b a
+    picked to 16 (ltb (turned half a) (turned half b))
+    || picked to 8 (ltb (turned half b) (turned half a))
+    || picked to 4 (eqb a b)
+    || picked to 2 (ltb a b)
+    || picked to 1 (ltb b a)
 
 -- the word form reads the low 32 bits, the doubleword form all 64
 abbrev pub word-half : ℕ

@@ -18,17 +18,17 @@ use Rattle.thread.specs.declared.Control.{Control}
 use Rattle.thread.specs.declared.Thread.{Thread}
 use Rattle.event.specs.declared.Event.{Event}
 use Rattle.event.specs.declared.Event.the-variants.{Tbegin, Tend, Tabort, Tabortwc, Tabortdc, Tsr, Tcheck, Treclaim, Trechkpt, Mtspr, Mfspr, Ld, Std, Addi, Disallowed, Interrupt, Host}
-use Rattle.own.specs.Own.{Ran, did, ran, next, advance, ts, cr0-from-state, gpr, put-gpr, gpr-or-0, own-recording, fails, dooms}
+use Rattle.own.specs.Own.{Ran, did, ran, next, advance, passes, ts, cr0-from-state, gpr, put-gpr, gpr-or-0, own-recording, fails, dooms}
 use Rattle.own.specs.Compare.{holds-in-words, holds-in-doublewords}
 use Rattle.own.specs.declared.Did.{Did}
 
 -- CR0 from state, and on to the next instruction
 abbrev pub cr0-only : Thread → Did
-cr0-only t = did 0 (advance (cr0-from-state t))
+cr0-only t = passes (cr0-from-state t)
 
 -- the same with TEXASR anew
 abbrev pub leveled : Thread → ℕ → Did
-leveled t x = did 0 (advance (cr0-from-state (with-control t (with-texasr (t .control) x))))
+leveled t x = passes (cr0-from-state (with-control t (with-texasr (t .control) x)))
 
 -- 1. tbegin. (R)
 abbrev pub begins : Thread → Bool → Control
@@ -45,7 +45,7 @@ begins t r =
     }
 
 unfoldable pub tbegin : State → Thread → Bool → Did
-tbegin N t r = did 0 (advance (with-control (take-checkpoint (cr0-from-state t)) (begins t r)))
+tbegin N t r = passes (with-control (take-checkpoint (cr0-from-state t)) (begins t r))
 tbegin T t r = cond (leb most-levels (tl (t .control .texasr))) (fails t cause-nesting) (leveled t (t .control .texasr + 1))
 tbegin S t r = cr0-only t
 
@@ -59,11 +59,14 @@ ends t =
     (with-control t (in-state (with-texasr (t .control) (t .control .texasr - tl (t .control .texasr))) N (t .control .doomed)))
     (transaction.discard (t .transaction))
 
+abbrev pub ended : Thread → Did
+ended t = passes (with-cr0 (ends t) (ts T))
+
 unfoldable pub tend : State → Thread → Bool → List ℕ → Ran
 tend N t a mem = ran (cr0-only t) mem
 tend T t a mem =
     cond (outermost t a)
-    (ran (did 0 (advance (with-cr0 (ends t) (ts T)))) (transaction.commit (t .transaction) mem))
+    (ran (ended t) (transaction.commit (t .transaction) mem))
     (ran (leveled t (t .control .texasr - 1)) mem)
 tend S t a mem = ran (cr0-only t) mem
 
@@ -80,17 +83,25 @@ tabort S t cause = dooms (cr0-from-state t) cause
 unfoldable pub tabort-if : Thread → Bool → Did
 tabort-if t held = cond held (tabort (t .control .state) t (cause-abort 0)) (cr0-only t)
 
+abbrev pub tabortwc : Thread → ℕ → ℕ → ℕ → Did
+tabortwc t to ra rb = tabort-if t (holds-in-words to (gpr t ra) (gpr t rb))
+
+abbrev pub tabortdc : Thread → ℕ → ℕ → ℕ → Did
+tabortdc t to ra rb = tabort-if t (holds-in-doublewords to (gpr t ra) (gpr t rb))
+
 -- 6. tsr. (L): L = 0 is T to S; L = 1 is S to T, and handling if TDOOMED
+abbrev pub moves : Thread → State → Did
+moves t s = passes (with-control (cr0-from-state t) (in-state (t .control) s (t .control .doomed)))
+
 unfoldable pub tsuspend : State → Thread → Did
 tsuspend N t = cr0-only t
-tsuspend T t = did 0 (advance (with-control (cr0-from-state t) (in-state (t .control) S (t .control .doomed))))
+tsuspend T t = moves t S
 tsuspend S t = cr0-only t
 
 unfoldable pub tresume : State → Thread → Did
 tresume N t = cr0-only t
 tresume T t = cr0-only t
-tresume S t =
-    cond (t .control .doomed) (did 20 (handling t)) (did 0 (advance (with-control (cr0-from-state t) (in-state (t .control) T (t .control .doomed)))))
+tresume S t = cond (t .control .doomed) (did 20 (handling t)) (moves t T)
 
 unfoldable pub tsr : Thread → Bool → Did
 tsr t l = cond l (tresume (t .control .state) t) (tsuspend (t .control .state) t)
@@ -99,19 +110,22 @@ tsr t l = cond l (tresume (t .control .state) t) (tsuspend (t .control .state) t
 abbrev pub put-cr : Thread → ℕ → ℕ → Thread
 put-cr t bf f = cond (eqb bf 0) (with-cr0 t f) (with-live t (record { gpr = t .live .gpr; cr = set (t .live .cr) (bf - 1) f }))
 
+abbrev pub check-field : Control → ℕ
+check-field k = bit (k .doomed) * 8 + ts (k .state)
+
 unfoldable pub tcheck : Thread → ℕ → Did
-tcheck t bf = did 0 (advance (put-cr t bf (bit (t .control .doomed) * 8 + ts (t .control .state))))
+tcheck t bf = passes (put-cr t bf (check-field (t .control)))
 
 -- 8. treclaim. (RA): records as tabort. does; registers and CR 1 to 7 from the checkpoint, CR0 from state, state N, TDOOMED = 0, sets and log emptied
 abbrev pub reclaims : Thread → Thread
 reclaims t = with-transaction (with-control (restore t) (in-state (t .control) N false)) (transaction.discard (t .transaction))
 
 unfoldable pub treclaim : Thread → ℕ → Did
-treclaim t ra = did 0 (advance (with-cr0 (reclaims (own-recording t (abort-cause t ra))) (ts (t .control .state))))
+treclaim t ra = passes (with-cr0 (reclaims (own-recording t (abort-cause t ra))) (ts (t .control .state)))
 
 -- 9. trechkpt.: checkpoint taken, CR0 = 0, state S, TDOOMED = 1
 unfoldable pub trechkpt : Thread → Did
-trechkpt t = did 0 (advance (with-control (with-cr0 (take-checkpoint t) 0) (in-state (t .control) S true)))
+trechkpt t = passes (with-control (with-cr0 (take-checkpoint t) 0) (in-state (t .control) S true))
 
 -- 10. mtspr (SPR, RA): 128 TFHAR, low two bits cleared; 129 TFIAR; 130 TEXASR; 131 the upper half of TEXASR from the low 32 bits
 abbrev pub special : Control → ℕ → ℕ → ℕ → Control
@@ -126,18 +140,21 @@ put-spr k spr v =
     (special k (k .tfhar) (k .tfiar) (lower v * 2 ^ 32 + lower (k .texasr)))))
 
 unfoldable pub mtspr : Thread → ℕ → ℕ → Did
-mtspr t spr ra = did 0 (advance (with-control t (put-spr (t .control) spr (gpr t ra))))
+mtspr t spr ra = passes (with-control t (put-spr (t .control) spr (gpr t ra)))
 
 -- 11. mfspr (RT, SPR): 131 gives the upper half; 129 gives 0 if PR = 1 and TFIAR's lowest bit is 0
+abbrev pub get-tfiar : Control → ℕ
+get-tfiar k = cond (k .pr && eqb (k .tfiar % 2) 0) 0 (k .tfiar)
+
 unfoldable pub get-spr : Control → ℕ → ℕ
 get-spr k spr =
     cond (eqb spr 128) (k .tfhar)
-    (cond (eqb spr 129) (cond (k .pr && eqb (k .tfiar % 2) 0) 0 (k .tfiar))
+    (cond (eqb spr 129) (get-tfiar k)
     (cond (eqb spr 130) (k .texasr)
     (upper (k .texasr))))
 
 unfoldable pub mfspr : Thread → ℕ → ℕ → Did
-mfspr t rt spr = did 0 (advance (put-gpr t rt (get-spr (t .control) spr)))
+mfspr t rt spr = passes (put-gpr t rt (get-spr (t .control) spr))
 
 -- (a) overflow, only in T; a load with ROT = 1 adds no line
 abbrev pub tracked : Thread → Bool
@@ -154,38 +171,41 @@ std-overflows T t i = transaction.store-overflows (t .transaction) i
 std-overflows S t i = false
 
 -- 12. ld (RT, index): (a), then (d): the log's value if one is there, else memory's; in T the line joins the read set unless ROT
-abbrev pub takes : Thread → ℕ → ℕ → List ℕ → Thread
-takes t rt i mem = put-gpr t rt (transaction.load (t .transaction) mem i)
+abbrev pub takes : Thread → ℕ → ℕ → List ℕ → Did
+takes t rt i mem = passes (put-gpr t rt (transaction.load (t .transaction) mem i))
 
 abbrev pub joins : Thread → ℕ → Thread
-joins t i = with-transaction t (cond (tracked t) (transaction.join (t .transaction) i) (t .transaction))
+joins t i = with-transaction t (transaction.join (t .transaction) i)
 
 unfoldable pub ld : State → Thread → ℕ → ℕ → List ℕ → Did
-ld N t rt i mem = did 0 (advance (takes t rt i mem))
-ld T t rt i mem = cond (ld-overflows T t i) (fails t cause-footprint) (did 0 (advance (takes (joins t i) rt i mem)))
-ld S t rt i mem = did 0 (advance (takes t rt i mem))
+ld N t rt i mem = takes t rt i mem
+ld T t rt i mem = cond (ld-overflows T t i) (fails t cause-footprint) (takes (cond (tracked t) (joins t i) t) rt i mem)
+ld S t rt i mem = takes t rt i mem
 
 -- 13. std (RA, index): (a); (b) in S a store to a line in the thread's own sets; (d): in T to the log, else to memory
+unfoldable pub logs : Thread → ℕ → ℕ → Did
+logs t v i = cond (std-overflows T t i) (fails t cause-footprint) (passes (with-transaction t (transaction.store (t .transaction) i v)))
+
+unfoldable pub meets-own : Thread → ℕ → Did
+meets-own t i = cond (transaction.touches (t .transaction) (transaction.line i)) (dooms t cause-self) (passes t)
+
 unfoldable pub std : State → Thread → ℕ → ℕ → List ℕ → Ran
-std N t v i mem = ran (did 0 (advance t)) (set mem i v)
-std T t v i mem =
-    cond (std-overflows T t i)
-    (ran (fails t cause-footprint) mem)
-    (ran (did 0 (advance (with-transaction t (transaction.store (t .transaction) i v)))) mem)
-std S t v i mem = ran (cond (transaction.touches (t .transaction) (transaction.line i)) (dooms t cause-self) (did 0 (advance t))) (set mem i v)
+std N t v i mem = ran (passes t) (set mem i v)
+std T t v i mem = ran (logs t v i) mem
+std S t v i mem = ran (meets-own t i) (set mem i v)
 
 -- 14. addi (RT, RA, SI): RA (0 if RA = 0) plus SI sign-extended from 16 bits
 abbrev pub extended : ℕ → ℕ
 extended si = cond (ltb si 0x8000) si (si + (2 ^ 64 - 2 ^ 16))
 
 unfoldable pub addi : Thread → ℕ → ℕ → ℕ → Did
-addi t rt ra si = did 0 (advance (put-gpr t rt ((gpr-or-0 t ra + extended si) % 2 ^ 64)))
+addi t rt ra si = passes (put-gpr t rt ((gpr-or-0 t ra + extended si) % 2 ^ 64))
 
 -- 15. a disallowed instruction
 unfoldable pub disallowed : State → Thread → Did
-disallowed N t = did 0 (advance t)
+disallowed N t = passes t
 disallowed T t = fails t cause-disallowed
-disallowed S t = did 0 (advance t)
+disallowed S t = passes t
 
 -- 16. interrupt taken: T to S; PR = 0, TM = 0; NIA kept. 17. the host sets PR and TM; NIA kept
 abbrev pub at-level : Control → State → Bool → Bool → Control
@@ -207,8 +227,8 @@ unfoldable pub own : Event → Thread → List ℕ → Ran
 own (Tbegin r) t mem = ran (tbegin (t .control .state) t r) mem
 own (Tend a) t mem = tend (t .control .state) t a mem
 own (Tabort ra) t mem = ran (tabort (t .control .state) t (abort-cause t ra)) mem
-own (Tabortwc to ra rb) t mem = ran (tabort-if t (holds-in-words to (gpr t ra) (gpr t rb))) mem
-own (Tabortdc to ra rb) t mem = ran (tabort-if t (holds-in-doublewords to (gpr t ra) (gpr t rb))) mem
+own (Tabortwc to ra rb) t mem = ran (tabortwc t to ra rb) mem
+own (Tabortdc to ra rb) t mem = ran (tabortdc t to ra rb) mem
 own (Tsr l) t mem = ran (tsr t l) mem
 own (Tcheck bf) t mem = ran (tcheck t bf) mem
 own (Treclaim ra) t mem = ran (treclaim t ra) mem

@@ -30,6 +30,10 @@ next a = (a + 4) % 2 ^ 64
 abbrev pub advance : Thread → Thread
 advance t = with-control t (with-nia (t .control) (next (t .control .nia)))
 
+-- done, with nothing else
+abbrev pub passes : Thread → Did
+passes t = did 0 (advance t)
+
 -- TS as CR0 from state has it: 0, the two TS bits, 0
 abbrev pub ts : State → ℕ
 ts N = 0b0000

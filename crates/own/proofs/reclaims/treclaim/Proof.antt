@@ -1,0 +1,35 @@
+-- `own::reclaims::treclaim` meets its contract.
+use Rattle.own.specs.Events.{treclaim}
+use borrow.Author.Needs.{needs}
+use Rattle.own.proofs.reclaims.treclaim.Statement.{statement}
+use Rattle.own.proofs.reclaims.treclaim.Tie as tie
+
+abort-cause-requires : tie.Need-abort-cause-requires
+abort-cause-requires c κs = search needs
+
+own-recording-requires : tie.Need-own-recording-requires
+own-recording-requires c κs = search needs
+
+reclaims-requires : tie.Need-reclaims-requires
+reclaims-requires c κs = search needs
+
+ts-requires : tie.Need-ts-requires
+ts-requires c κs = search needs
+
+passes-requires : tie.Need-passes-requires
+passes-requires c κs = search needs
+
+returns : tie.Need-returns
+unfolding treclaim
+returns c = simp (c .passes .ensures, c .before .ts .ensures .0, c .before .before .reclaims .ensures, c .before .before .before .own-recording .ensures, c .before .before .before .before .abort-cause .ensures .0)
+
+pub treclaim-spec : {M : Type 1} → statement M
+treclaim-spec =
+    tie.close
+    (tie.spec
+    abort-cause-requires
+    own-recording-requires
+    reclaims-requires
+    ts-requires
+    passes-requires
+    returns)
