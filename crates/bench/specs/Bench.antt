@@ -9,22 +9,22 @@ use Rattle.thread.specs.declared.Thread.{Thread}
 use Rattle.event.specs.declared.Event.{Event}
 use Rattle.event.specs.declared.Event.the-variants.{Tbegin, Tabort, Tabortwc, Tabortdc, Tsr, Ld, Std, Addi, Disallowed, Host}
 use Rattle.machine.specs.Machine.{thread, with-threads, fresh, fresh-memory}
-use Rattle.machine.specs.Step.{Outcome, outcome, Fed, feed}
+use Rattle.machine.specs.Step.{Outcome, outcome, Fed, after}
 use Rattle.machine.specs.declared.Machine.{Machine}
 
--- what is expected: the last answer, or a register of a thread
+-- what is expected of a thread's registers afterwards
 pub data Expect : Type 0 where
-  answers : ℕ → Expect
   texasr tfiar tfhar cr0 : ℕ → ℕ → Expect
 
+-- a machine and its memory, the events fed to it, the answers that they get, and what is expected after them
 pub record Case : Type 0 where
   pub start : Machine
   pub memory : List ℕ
   pub events : List Fed
+  pub answers : List ℕ
   pub expects : List Expect
 
 unfoldable pub met : Outcome → Expect → Bool
-met o (answers n) = eqb (o .done .answer) n
 met o (texasr w v) = eqb (thread (o .done .machine .threads) w .control .texasr) v
 met o (tfiar w v) = eqb (thread (o .done .machine .threads) w .control .tfiar) v
 met o (tfhar w v) = eqb (thread (o .done .machine .threads) w .control .tfhar) v
@@ -34,8 +34,17 @@ unfoldable pub all-met : Outcome → List Expect → Bool
 all-met o [] = true
 all-met o (e ∷ es) = met o e && all-met o es
 
+-- each event gets its answer, and at the end all that is expected is met
+unfoldable pub told : List Fed → List ℕ → List Expect → Outcome → Bool
+told [] [] expects o = all-met o expects
+told [] (a ∷ rest) expects o = false
+told (f ∷ fs) [] expects o = false
+told (f ∷ fs) (a ∷ rest) expects o =
+    let next = after o f in
+    eqb (next .done .answer) a && told fs rest expects next
+
 unfoldable pub holds : Case → Bool
-holds c = all-met (feed (c .events) (outcome 0 (c .start) (c .memory))) (c .expects)
+holds c = told (c .events) (c .answers) (c .expects) (outcome 0 (c .start) (c .memory))
 
 unfoldable pub all-hold : List Case → Bool
 all-hold [] = true
@@ -48,8 +57,8 @@ moved t a = with-control t (with-nia (t .control) a)
 abbrev pub at : ℕ → Machine
 at a = with-threads fresh (set (fresh .threads) 0 (moved (thread (fresh .threads) 0) a))
 
-abbrev pub case : ℕ → List Fed → List Expect → Case
-case a events expects = record { start = at a; memory = fresh-memory; events = events; expects = expects }
+abbrev pub case : ℕ → List Fed → List ℕ → List Expect → Case
+case a events answers expects = record { start = at a; memory = fresh-memory; events = events; answers = answers; expects = expects }
 
 -- events by thread 0, and by thread 1
 abbrev pub own : Event → Fed
@@ -75,68 +84,69 @@ abbrev pub all-ones : List ℕ
 all-ones = set fresh-memory 5 0xFFFFFFFF
 
 -- r3 is loaded from doubleword 5; r4 is 0
-abbrev pub compares : Event → List Expect → Case
-compares e expects = record { start = at 0; memory = all-ones; events = own (Ld 3 5) ∷ own (Tbegin false) ∷ own e ∷ []; expects = expects }
+abbrev pub compares : Event → List ℕ → List Expect → Case
+compares e answers expects =
+    record { start = at 0; memory = all-ones; events = own (Ld 3 5) ∷ own (Tbegin false) ∷ own e ∷ []; answers = answers; expects = expects }
 
 abbrev pub k1 : Case
 k1 =
-    case 0x1000 (own (Tbegin false) ∷ own (Addi 4 0 0) ∷ own (Tabort 0) ∷ [])
-    (answers 20 ∷ texasr 0 0x000000011C000001 ∷ tfiar 0 0x1009 ∷ tfhar 0 0x1004 ∷ cr0 0 0b1010 ∷ [])
+    case 0x1000 (own (Tbegin false) ∷ own (Addi 4 0 0) ∷ own (Tabort 0) ∷ []) (0 ∷ 0 ∷ 20 ∷ [])
+    (texasr 0 0x000000011C000001 ∷ tfiar 0 0x1009 ∷ tfhar 0 0x1004 ∷ cr0 0 0b1010 ∷ [])
 
 abbrev pub k2 : Case
 k2 =
-    case 0x1000 (own (Tbegin false) ∷ own (Addi 3 0 0x1A5) ∷ own (Tabort 3) ∷ [])
-    (answers 20 ∷ texasr 0 0xA50000011C000001 ∷ tfiar 0 0x1009 ∷ tfhar 0 0x1004 ∷ cr0 0 0b1010 ∷ [])
+    case 0x1000 (own (Tbegin false) ∷ own (Addi 3 0 0x1A5) ∷ own (Tabort 3) ∷ []) (0 ∷ 0 ∷ 20 ∷ [])
+    (texasr 0 0xA50000011C000001 ∷ tfiar 0 0x1009 ∷ tfhar 0 0x1004 ∷ cr0 0 0b1010 ∷ [])
 
 abbrev pub k3 : Case
 k3 =
-    case 0x1000 (supervisor ∷ begins 2 ++ own Disallowed ∷ []) (answers 20 ∷ texasr 0 0x008000000C000002 ∷ [])
+    case 0x1000 (supervisor ∷ begins 2 ++ own Disallowed ∷ []) (0 ∷ 0 ∷ 0 ∷ 20 ∷ []) (texasr 0 0x008000000C000002 ∷ [])
 
 abbrev pub k4 : Case
 k4 =
-    case 0x1000 (own (Tbegin false) ∷ own (Ld 0 17) ∷ other (Std 0 16) ∷ []) (answers 0 ∷ texasr 0 0x0008000018000001 ∷ [])
+    case 0x1000 (own (Tbegin false) ∷ own (Ld 0 17) ∷ other (Std 0 16) ∷ []) (0 ∷ 0 ∷ 0 ∷ []) (texasr 0 0x0008000018000001 ∷ [])
 
 abbrev pub k5 : Case
 k5 =
-    case 0x1000 (own (Tbegin false) ∷ own (Std 0 17) ∷ own (Tsr false) ∷ own (Std 0 16) ∷ []) (answers 21 ∷ texasr 0 0x001000009C000001 ∷ [])
+    case 0x1000 (own (Tbegin false) ∷ own (Std 0 17) ∷ own (Tsr false) ∷ own (Std 0 16) ∷ []) (0 ∷ 0 ∷ 0 ∷ 21 ∷ []) (texasr 0 0x001000009C000001 ∷ [])
 
 -- the 33rd line
 abbrev pub k6 : Case
 k6 =
-    case 0x1000 (supervisor ∷ own (Tbegin false) ∷ loads 33) (answers 20 ∷ texasr 0 0x002000000C000001 ∷ [])
+    case 0x1000 (supervisor ∷ own (Tbegin false) ∷ loads 33) (replicate 34 0 ++ 20 ∷ []) (texasr 0 0x002000000C000001 ∷ [])
 
 -- the 32nd line
 abbrev pub k6-done : Case
 k6-done =
-    case 0x1000 (supervisor ∷ own (Tbegin false) ∷ loads 32) (answers 0 ∷ texasr 0 0x00000001 ∷ [])
+    case 0x1000 (supervisor ∷ own (Tbegin false) ∷ loads 32) (replicate 34 0) (texasr 0 0x00000001 ∷ [])
 
 -- at TL 15
 abbrev pub k7 : Case
 k7 =
-    case 0x1000 (begins 16) (answers 20 ∷ texasr 0 0x004000001C00000F ∷ [])
+    case 0x1000 (begins 16) (replicate 15 0 ++ 20 ∷ []) (texasr 0 0x004000001C00000F ∷ [])
 
 -- at TL 14
 abbrev pub k7-done : Case
 k7-done =
-    case 0x1000 (begins 15) (answers 0 ∷ texasr 0 0x0000000F ∷ [])
+    case 0x1000 (begins 15) (replicate 15 0) (texasr 0 0x0000000F ∷ [])
 
 abbrev pub k8 : Case
 k8 =
-    case 0x1000 (own (Tbegin true) ∷ []) (answers 0 ∷ texasr 0 0x02000001 ∷ [])
+    case 0x1000 (own (Tbegin true) ∷ []) (0 ∷ []) (texasr 0 0x02000001 ∷ [])
 
 abbrev pub k9 : Case
 k9 =
-    case (2 ^ 64 - 4) (own (Tbegin false) ∷ []) (answers 0 ∷ tfhar 0 0 ∷ [])
+    case (2 ^ 64 - 4) (own (Tbegin false) ∷ []) (0 ∷ []) (tfhar 0 0 ∷ [])
 
 -- the word form aborts
 abbrev pub k10 : Case
 k10 =
-    compares (Tabortwc 16 3 4) (answers 20 ∷ texasr 0 0x000000011C000001 ∷ [])
+    compares (Tabortwc 16 3 4) (0 ∷ 0 ∷ 20 ∷ []) (texasr 0 0x000000011C000001 ∷ [])
 
 -- the doubleword form doesn't
 abbrev pub k10-not : Case
 k10-not =
-    compares (Tabortdc 16 3 4) (answers 0 ∷ texasr 0 0x00000001 ∷ [])
+    compares (Tabortdc 16 3 4) (0 ∷ 0 ∷ 0 ∷ []) (texasr 0 0x00000001 ∷ [])
 
 abbrev pub table : List Case
 table = k1 ∷ k2 ∷ k3 ∷ k4 ∷ k5 ∷ k6 ∷ k6-done ∷ k7 ∷ k7-done ∷ k8 ∷ k9 ∷ k10 ∷ k10-not ∷ []

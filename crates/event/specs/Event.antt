@@ -1,7 +1,7 @@
 -- The seventeen kinds of event (document 01, "Events").
 use Prim.Native.Nat.{ℕ}
-use mathlib.Core.Bool.{Bool, true, _&&_, _||_}
-use lib.Dec.{eqb, leb, ltb}
+use mathlib.Core.Bool.{Bool, true, _&&_}
+use lib.Dec.{leb, ltb}
 use Rattle.event.specs.declared.Event.{Event}
 use Rattle.event.specs.declared.Event.the-variants.{Tbegin, Tend, Tabort, Tabortwc, Tabortdc, Tsr, Tcheck, Treclaim, Trechkpt, Mtspr, Mfspr, Ld, Std, Addi, Disallowed, Interrupt, Host}
 
@@ -24,13 +24,6 @@ kind (Addi rt ra si) = 14
 kind Disallowed = 15
 kind Interrupt = 16
 kind (Host pr tm) = 17
-
--- TM instructions are 1 to 11; treclaim. and trechkpt. are privileged
-abbrev pub tm-instruction : Event → Bool
-tm-instruction e = leb (kind e) 11
-
-abbrev pub privileged : Event → Bool
-privileged e = eqb (kind e) 8 || eqb (kind e) 9
 
 -- number 4 of document 01, "Numbers given back": used registers to 31, BF to 7, TO to 31, SPR 128 to 131, the index in memory
 abbrev pub register-right : ℕ → Bool

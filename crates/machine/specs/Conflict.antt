@@ -15,7 +15,6 @@ use Rattle.thread.specs.declared.State.the-variants.{N, T, S}
 use Rattle.thread.specs.declared.Thread.{Thread}
 use Rattle.event.specs.declared.Event.{Event}
 use Rattle.event.specs.declared.Event.the-variants.{Tbegin, Tend, Tabort, Tabortwc, Tabortdc, Tsr, Tcheck, Treclaim, Trechkpt, Mtspr, Mfspr, Ld, Std, Addi, Disallowed, Interrupt, Host}
-use Rattle.own.specs.Events.{ld-overflows, std-overflows}
 use Rattle.machine.specs.Machine.{thread}
 
 -- an access to a line meets a transaction: its write set or, for a store, either set
@@ -45,12 +44,11 @@ strike ts w stores l cause (suc n) =
     cond (eqb n w) (strike ts w stores l cause n)
     (set (strike ts w stores l cause n) n (struck (thread ts n .control .state) (thread ts n) stores l cause))
 
--- an access by thread w, which has no conflict where it overflows
-abbrev pub access : List Thread → ℕ → Bool → Bool → ℕ → List Thread
-access ts w overflows stores i =
-    cond overflows ts (strike ts w stores (line i) (conflict-cause (thread ts w .control .state)) most-threads)
+-- an access by thread w: the line, and the cause by the state that it is made in
+abbrev pub access : List Thread → ℕ → Bool → ℕ → List Thread
+access ts w stores i = strike ts w stores (line i) (conflict-cause (thread ts w .control .state)) most-threads
 
--- what an event by thread w leaves of the other threads
+-- what an event by thread w leaves of the other threads: only a load or a store touches them
 unfoldable pub others : Event → List Thread → ℕ → List Thread
 others (Tbegin r) ts w = ts
 others (Tend a) ts w = ts
@@ -63,8 +61,8 @@ others (Treclaim ra) ts w = ts
 others Trechkpt ts w = ts
 others (Mtspr spr ra) ts w = ts
 others (Mfspr rt spr) ts w = ts
-others (Ld rt i) ts w = access ts w (ld-overflows (thread ts w .control .state) (thread ts w) i) false i
-others (Std ra i) ts w = access ts w (std-overflows (thread ts w .control .state) (thread ts w) i) true i
+others (Ld rt i) ts w = access ts w false i
+others (Std ra i) ts w = access ts w true i
 others (Addi rt ra si) ts w = ts
 others Disallowed ts w = ts
 others Interrupt ts w = ts

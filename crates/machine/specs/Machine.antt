@@ -12,9 +12,9 @@ use Rattle.thread.specs.declared.Control.{Control}
 use Rattle.thread.specs.declared.Thread.{Thread}
 use Rattle.machine.specs.declared.Machine.{Machine}
 
--- control registers all zero but PR and TM
-abbrev pub no-control : Bool → Bool → Control
-no-control pr tm = record { nia = 0; pr = pr; tm = tm; state = N; doomed = false; tfhar = 0; tfiar = 0; texasr = 0 }
+-- control registers all zero but PR and TM: of a fresh thread, and of a record that is not there
+abbrev pub initial-control : Bool → Bool → Control
+initial-control pr tm = record { nia = 0; pr = pr; tm = tm; state = N; doomed = false; tfhar = 0; tfiar = 0; texasr = 0 }
 
 -- what an index past the end of the records gives
 abbrev pub no-registers : Registers
@@ -29,7 +29,7 @@ no-thread =
       live = no-registers;
       cr0 = 0;
       checkpoint = no-registers;
-      control = no-control false false;
+      control = initial-control false false;
       transaction = record { reads = no-lines; writes = no-lines; count = 0; log = [] };
     }
 
@@ -40,11 +40,11 @@ abbrev pub with-threads : Machine → List Thread → Machine
 with-threads m ts = record { count = m .count; threads = ts }
 
 -- a fresh machine: four threads, all N, PR = 1, TM = 1, all else zero, and 4,096 doublewords of memory, all zero
-abbrev pub zero-registers : Registers
-zero-registers = record { gpr = replicate 32 0; cr = replicate 7 0 }
+abbrev pub blank-registers : Registers
+blank-registers = record { gpr = replicate 32 0; cr = replicate 7 0 }
 
 unfoldable pub fresh-thread : Thread
-fresh-thread = record { live = zero-registers; cr0 = 0; checkpoint = zero-registers; control = no-control true true; transaction = transaction.empty }
+fresh-thread = record { live = blank-registers; cr0 = 0; checkpoint = blank-registers; control = initial-control true true; transaction = transaction.empty }
 
 unfoldable pub fresh : Machine
 fresh = record { count = most-threads; threads = replicate most-threads fresh-thread }

@@ -7,7 +7,7 @@ use lib.ListN.{set, length}
 use Rattle.thread.specs.declared.Thread.{Thread}
 use Rattle.event.specs.declared.Event.{Event}
 use Rattle.own.specs.Own.{Ran}
-use Rattle.own.specs.Events.{own}
+use Rattle.own.specs.Events.{overflows, own}
 use Rattle.machine.specs.Machine.{thread, with-threads}
 use Rattle.machine.specs.Refusal.{refusal}
 use Rattle.machine.specs.Conflict.{others}
@@ -26,9 +26,10 @@ outcome n m mem = record { done = record { answer = n; machine = m }; memory = m
 abbrev pub joined : Machine → List Thread → ℕ → Ran → Outcome
 joined m ts w r = outcome (r .did .answer) (with-threads m (set ts w (r .did .thread))) (r .memory)
 
--- an event that is not refused
+-- an event that is not refused; where its access overflows no other thread is touched
 unfoldable pub perform : Machine → List ℕ → ℕ → Event → Outcome
-perform m mem w e = joined m (others e (m .threads) w) w (own e (thread (m .threads) w) mem)
+perform m mem w e =
+    joined m (cond (overflows e (thread (m .threads) w)) (m .threads) (others e (m .threads) w)) w (own e (thread (m .threads) w) mem)
 
 unfoldable pub step : Machine → List ℕ → ℕ → Event → Outcome
 step m mem w e =

@@ -1,6 +1,15 @@
 // The machine: one to four threads over a lent memory (document 01, "The machine").
+pub mod conflict;
+pub mod refusal;
+pub mod step;
+pub mod valid;
 
+ghost use mathlib.Core.Path.{_≡_};
+ghost use Rattle.machine.specs.Machine.{fresh};
 use base::THREADS;
+use thread::Control;
+use thread::Registers;
+use thread::State;
 use thread::Thread;
 
 pub struct Machine {
@@ -12,4 +21,36 @@ pub struct Machine {
 pub struct Done {
     pub answer: u8,
     pub machine: Machine,
+}
+
+// Four threads, all N, PR = 1, TM = 1, all else zero.
+pub fn fresh() -> Machine
+    ensures { λ r. ⌜ r ≡ fresh ⌝ }
+{
+    let none = transaction::empty();
+    let zeros = Registers {
+        gpr: [0; 32],
+        cr: [0; 7],
+    };
+    let control = Control {
+        nia: 0,
+        pr: true,
+        tm: true,
+        state: State::N,
+        doomed: false,
+        tfhar: 0,
+        tfiar: 0,
+        texasr: 0,
+    };
+    let t = Thread {
+        live: zeros,
+        cr0: 0,
+        checkpoint: zeros,
+        control,
+        transaction: none,
+    };
+    Machine {
+        count: THREADS,
+        threads: [t; THREADS],
+    }
 }

@@ -18,7 +18,7 @@ use Rattle.thread.specs.declared.Control.{Control}
 use Rattle.thread.specs.declared.Thread.{Thread}
 use Rattle.event.specs.declared.Event.{Event}
 use Rattle.event.specs.declared.Event.the-variants.{Tbegin, Tend, Tabort, Tabortwc, Tabortdc, Tsr, Tcheck, Treclaim, Trechkpt, Mtspr, Mfspr, Ld, Std, Addi, Disallowed, Interrupt, Host}
-use Rattle.own.specs.Own.{Ran, did, ran, next, advance, passes, ts, cr0-from-state, gpr, put-gpr, gpr-or-0, own-recording, fails, dooms}
+use Rattle.own.specs.Own.{Ran, did, ran, next, advance, passes, ts-field, cr0-from-state, gpr, put-gpr, gpr-or-0, own-recording, fails, dooms}
 use Rattle.own.specs.Compare.{holds-in-words, holds-in-doublewords}
 use Rattle.own.specs.declared.Did.{Did}
 
@@ -26,7 +26,7 @@ use Rattle.own.specs.declared.Did.{Did}
 abbrev pub cr0-only : Thread → Did
 cr0-only t = passes (cr0-from-state t)
 
--- the same with TEXASR anew
+-- the same with TEXASR anew, for a level up or down
 abbrev pub leveled : Thread → ℕ → Did
 leveled t x = passes (cr0-from-state (with-control t (with-texasr (t .control) x)))
 
@@ -49,9 +49,9 @@ tbegin N t r = passes (with-control (take-checkpoint (cr0-from-state t)) (begins
 tbegin T t r = cond (leb most-levels (tl (t .control .texasr))) (fails t cause-nesting) (leveled t (t .control .texasr + 1))
 tbegin S t r = cr0-only t
 
--- 2. tend. (A): with A = 1 or TL = 1 every log value goes to its doubleword, TL = 0, sets and log emptied, state N
-abbrev pub outermost : Thread → Bool → Bool
-outermost t a = a || leb (tl (t .control .texasr)) 1
+-- 2. tend. (A): with A = 1 or TL = 1 it commits: every log value goes to its doubleword, TL = 0, sets and log emptied, state N
+abbrev pub commits : Thread → Bool → Bool
+commits t a = a || leb (tl (t .control .texasr)) 1
 
 abbrev pub ends : Thread → Thread
 ends t =
@@ -60,12 +60,12 @@ ends t =
     (transaction.discard (t .transaction))
 
 abbrev pub ended : Thread → Did
-ended t = passes (with-cr0 (ends t) (ts T))
+ended t = passes (with-cr0 (ends t) (ts-field T))
 
 unfoldable pub tend : State → Thread → Bool → List ℕ → Ran
 tend N t a mem = ran (cr0-only t) mem
 tend T t a mem =
-    cond (outermost t a)
+    cond (commits t a)
     (ran (ended t) (transaction.commit (t .transaction) mem))
     (ran (leveled t (t .control .texasr - 1)) mem)
 tend S t a mem = ran (cr0-only t) mem
@@ -111,7 +111,7 @@ abbrev pub put-cr : Thread → ℕ → ℕ → Thread
 put-cr t bf f = cond (eqb bf 0) (with-cr0 t f) (with-live t (record { gpr = t .live .gpr; cr = set (t .live .cr) (bf - 1) f }))
 
 abbrev pub check-field : Control → ℕ
-check-field k = bit (k .doomed) * 8 + ts (k .state)
+check-field k = bit (k .doomed) * 8 + ts-field (k .state)
 
 unfoldable pub tcheck : Thread → ℕ → Did
 tcheck t bf = passes (put-cr t bf (check-field (t .control)))
@@ -121,7 +121,7 @@ abbrev pub reclaims : Thread → Thread
 reclaims t = with-transaction (with-control (restore t) (in-state (t .control) N false)) (transaction.discard (t .transaction))
 
 unfoldable pub treclaim : Thread → ℕ → Did
-treclaim t ra = passes (with-cr0 (reclaims (own-recording t (abort-cause t ra))) (ts (t .control .state)))
+treclaim t ra = passes (with-cr0 (reclaims (own-recording t (abort-cause t ra))) (ts-field (t .control .state)))
 
 -- 9. trechkpt.: checkpoint taken, CR0 = 0, state S, TDOOMED = 1
 unfoldable pub trechkpt : Thread → Did
@@ -170,6 +170,26 @@ std-overflows N t i = false
 std-overflows T t i = transaction.store-overflows (t .transaction) i
 std-overflows S t i = false
 
+-- an access that overflows is not made
+unfoldable pub overflows : Event → Thread → Bool
+overflows (Tbegin r) t = false
+overflows (Tend a) t = false
+overflows (Tabort ra) t = false
+overflows (Tabortwc to ra rb) t = false
+overflows (Tabortdc to ra rb) t = false
+overflows (Tsr l) t = false
+overflows (Tcheck bf) t = false
+overflows (Treclaim ra) t = false
+overflows Trechkpt t = false
+overflows (Mtspr spr ra) t = false
+overflows (Mfspr rt spr) t = false
+overflows (Ld rt i) t = ld-overflows (t .control .state) t i
+overflows (Std ra i) t = std-overflows (t .control .state) t i
+overflows (Addi rt ra si) t = false
+overflows Disallowed t = false
+overflows Interrupt t = false
+overflows (Host pr tm) t = false
+
 -- 12. ld (RT, index): (a), then (d): the log's value if one is there, else memory's; in T the line joins the read set unless ROT
 abbrev pub takes : Thread → ℕ → ℕ → List ℕ → Did
 takes t rt i mem = passes (put-gpr t rt (transaction.load (t .transaction) mem i))
@@ -208,8 +228,8 @@ disallowed T t = fails t cause-disallowed
 disallowed S t = passes t
 
 -- 16. interrupt taken: T to S; PR = 0, TM = 0; NIA kept. 17. the host sets PR and TM; NIA kept
-abbrev pub at-level : Control → State → Bool → Bool → Control
-at-level k s pr tm = record { nia = k .nia; pr = pr; tm = tm; state = s; doomed = k .doomed; tfhar = k .tfhar; tfiar = k .tfiar; texasr = k .texasr }
+abbrev pub with-msr : Control → State → Bool → Bool → Control
+with-msr k s pr tm = record { nia = k .nia; pr = pr; tm = tm; state = s; doomed = k .doomed; tfhar = k .tfhar; tfiar = k .tfiar; texasr = k .texasr }
 
 abbrev pub interrupted : State → State
 interrupted N = N
@@ -217,10 +237,10 @@ interrupted T = S
 interrupted S = S
 
 unfoldable pub interrupt : Thread → Did
-interrupt t = did 0 (with-control t (at-level (t .control) (interrupted (t .control .state)) false false))
+interrupt t = did 0 (with-control t (with-msr (t .control) (interrupted (t .control .state)) false false))
 
 unfoldable pub host : Thread → Bool → Bool → Did
-host t pr tm = did 0 (with-control t (at-level (t .control) (t .control .state) pr tm))
+host t pr tm = did 0 (with-control t (with-msr (t .control) (t .control .state) pr tm))
 
 -- the event on its own thread
 unfoldable pub own : Event → Thread → List ℕ → Ran

@@ -1,5 +1,5 @@
 -- What the events on one thread share (document 01, "Events"): the next address, CR0 from state, the thread's own failure.
-use Prim.Native.Nat.{ℕ, _+_, _%_, _^_}
+use Prim.Native.Nat.{ℕ, _+_, _*_, _%_, _^_}
 use mathlib.Core.Bool.{Bool, true, false, cond}
 use mathlib.Core.List.{List}
 use lib.ListN.{getD, set}
@@ -34,14 +34,18 @@ advance t = with-control t (with-nia (t .control) (next (t .control .nia)))
 abbrev pub passes : Thread → Did
 passes t = did 0 (advance t)
 
--- TS as CR0 from state has it: 0, the two TS bits, 0
+-- TS is 00 in N, 10 in T, 01 in S
 abbrev pub ts : State → ℕ
-ts N = 0b0000
-ts T = 0b0100
-ts S = 0b0010
+ts N = 0b00
+ts T = 0b10
+ts S = 0b01
+
+-- CR0 from state: 0, the two TS bits, 0
+abbrev pub ts-field : State → ℕ
+ts-field s = 2 * ts s
 
 abbrev pub cr0-from-state : Thread → Thread
-cr0-from-state t = with-cr0 t (ts (t .control .state))
+cr0-from-state t = with-cr0 t (ts-field (t .control .state))
 
 -- general register r, and the thread with a value in it
 abbrev pub gpr : Thread → ℕ → ℕ

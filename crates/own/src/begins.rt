@@ -2,7 +2,7 @@
 ghost use mathlib.Core.Path.{_≡_};
 ghost use Prim.Native.Nat.{_≤_};
 ghost use Rattle.base.specs.Limits.{most-places};
-ghost use Rattle.own.specs.Events.{begins, tbegin, outermost, ended, tend, moves, tsuspend, tresume, tsr};
+ghost use Rattle.own.specs.Events.{begins, tbegin, commits, ended, tend, moves, tsuspend, tresume, tsr};
 use crate::Did;
 use crate::common;
 use base::LEVELS;
@@ -57,8 +57,8 @@ pub fn tbegin(t: Thread, r: bool) -> Did
 }
 
 // The transaction closes with this tend.
-fn outermost(t: Thread, a: bool) -> bool
-    ensures { λ r. ⌜ r ≡ outermost t a ⌝ }
+fn commits(t: Thread, a: bool) -> bool
+    ensures { λ r. ⌜ r ≡ commits t a ⌝ }
 {
     if a {
         return true;
@@ -95,7 +95,7 @@ pub fn tend(t: Thread, a: bool, mem: &mut [u64]) -> Did
     match s {
         State::N => common::cr0_only(t),
         State::T => {
-            if outermost(t, a) {
+            if commits(t, a) {
                 let held = t.transaction;
                 transaction::commit(held, mem);
                 return ended(t);

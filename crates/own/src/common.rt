@@ -1,7 +1,7 @@
 // What the events share: the next address, CR0 from state, registers, the thread's own failure.
 ghost use mathlib.Core.Path.{_≡_};
 ghost use Prim.Native.Nat.{_<_, _^_};
-ghost use Rattle.own.specs.Own.{next, advance, passes, ts, cr0-from-state, gpr, gpr-or-0, put-gpr, own-recording, fails, dooms};
+ghost use Rattle.own.specs.Own.{next, advance, passes, ts-field, cr0-from-state, gpr, gpr-or-0, put-gpr, own-recording, fails, dooms};
 ghost use Rattle.own.specs.Events.{cr0-only, leveled};
 use crate::Did;
 use thread::State;
@@ -15,8 +15,8 @@ pub fn next(a: u64) -> u64
 }
 
 // The two TS bits between two zeros.
-pub fn ts(s: State) -> u8
-    ensures { λ r. ⌜ r ≡ ts s ⌝ }
+pub fn ts_field(s: State) -> u8
+    ensures { λ r. ⌜ r ≡ ts-field s ⌝ }
     ensures { λ r. ⌜ r < 8 ⌝ }
 {
     match s {
@@ -54,7 +54,7 @@ pub fn cr0_from_state(t: Thread) -> Thread
     let k = t.control;
     let s = k.state;
     let mut u = t;
-    u.cr0 = ts(s);
+    u.cr0 = ts_field(s);
     u
 }
 

@@ -1,7 +1,7 @@
 // addi, the disallowed instruction, the interrupt, and the host's setting of PR and TM.
 ghost use mathlib.Core.Path.{_≡_};
 ghost use Prim.Native.Nat.{_<_};
-ghost use Rattle.own.specs.Events.{extended, addi, disallowed, at-level, interrupted, interrupt, host};
+ghost use Rattle.own.specs.Events.{extended, addi, disallowed, with-msr, interrupted, interrupt, host};
 use crate::Did;
 use crate::common;
 use thread::Control;
@@ -43,8 +43,8 @@ pub fn disallowed(t: Thread) -> Did
     }
 }
 
-fn at_level(k: Control, s: State, pr: bool, tm: bool) -> Control
-    ensures { λ r. ⌜ r ≡ at-level k s pr tm ⌝ }
+fn with_msr(k: Control, s: State, pr: bool, tm: bool) -> Control
+    ensures { λ r. ⌜ r ≡ with-msr k s pr tm ⌝ }
 {
     Control {
         nia: k.nia,
@@ -74,7 +74,7 @@ pub fn interrupt(t: Thread) -> Did
 {
     let k = t.control;
     let s = k.state;
-    let c = at_level(k, interrupted(s), false, false);
+    let c = with_msr(k, interrupted(s), false, false);
     let mut u = t;
     u.control = c;
     Did {
@@ -89,7 +89,7 @@ pub fn host(t: Thread, pr: bool, tm: bool) -> Did
 {
     let k = t.control;
     let s = k.state;
-    let c = at_level(k, s, pr, tm);
+    let c = with_msr(k, s, pr, tm);
     let mut u = t;
     u.control = c;
     Did {

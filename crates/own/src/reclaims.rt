@@ -15,9 +15,9 @@ fn check_field(k: Control) -> u8
 {
     let s = k.state;
     if k.doomed {
-        return 8 + common::ts(s);
+        return 8 + common::ts_field(s);
     }
-    common::ts(s)
+    common::ts_field(s)
 }
 
 // CR field BF: CR0 stands apart from the others.
@@ -69,7 +69,7 @@ pub fn treclaim(t: Thread, ra: u8) -> Did
     let s = k.state;
     let u = common::own_recording(t, aborts::abort_cause(t, ra));
     let mut v = reclaims(u);
-    v.cr0 = common::ts(s);
+    v.cr0 = common::ts_field(s);
     common::passes(v)
 }
 

@@ -58,6 +58,11 @@ read bs =
     (cond (not (fixed-zero bs && unused-clear (fields-at bs))) (Refused 9)
     (Record (byte bs 2) (event-of (fields-at bs))))))
 
+-- the number of an answer: 0 for a record, or the number by which it is refused
+abbrev pub number : Read → ℕ
+number (Record w e) = 0
+number (Refused n) = n
+
 -- the writer: number 10 for a buffer under 16 bytes, which stays; else the first 16 bytes
 unfoldable pub write-answer : List ℕ → ℕ
 write-answer buf = cond (ltb (length buf) record-size) 10 0

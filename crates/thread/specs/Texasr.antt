@@ -22,7 +22,7 @@ upper x = x / 2 ^ 32
 abbrev pub lower : ℕ → ℕ
 lower x = x % 2 ^ 32
 
--- a level and ROT, and all else 0: what an outermost tbegin. leaves
+-- level 1 with ROT, and all else 0: what an outermost tbegin. leaves
 abbrev pub begun : ℕ → ℕ
 begun r = r * weight 38 + 1
 

@@ -26,8 +26,8 @@ cr0-only-requires c κs = search needs
 enum-told-2 : tie.Need-enum-told-2
 enum-told-2 c = search needs
 
-outermost-requires : tie.Need-outermost-requires
-outermost-requires c κs = search needs
+commits-requires : tie.Need-commits-requires
+commits-requires c κs = search needs
 
 commit-requires : tie.Need-commit-requires
 commit-requires c κs = search needs
@@ -40,14 +40,14 @@ same-length c = search needs
 
 returns : tie.Need-returns
 unfolding tend
-returns c = (simp (c .ended .ensures, sym (c .before .before .before .before .before .before .before .outermost .ensures) ∙ c .before .before .before .before .before .before .if1 .taken, c .before .before .before .before .before .before .before .before .enum-told2 .given .1), simp (c .before .before .before .commit .ensures, sym (c .before .before .before .before .before .before .before .outermost .ensures) ∙ c .before .before .before .before .before .before .if1 .taken, c .before .before .before .before .before .before .before .before .enum-told2 .given .1))
+returns c = (simp (c .ended .ensures, sym (c .before .before .before .before .before .before .before .commits .ensures) ∙ c .before .before .before .before .before .before .if1 .taken, c .before .before .before .before .before .before .before .before .enum-told2 .given .1), simp (c .before .before .before .commit .ensures, sym (c .before .before .before .before .before .before .before .commits .ensures) ∙ c .before .before .before .before .before .before .if1 .taken, c .before .before .before .before .before .before .before .before .enum-told2 .given .1))
 
 sub-leveled : tie.Need-sub-leveled
 sub-leveled c =
     let f = c .before in
     let o = f .before in
     let s = o .before .before .before .before .before .args in
-    omega (arith, deeper (s .a) (tl (s .t .control .texasr)) (sym (o .outermost .ensures) ∙ f .if1 .left))
+    omega (arith, deeper (s .a) (tl (s .t .control .texasr)) (sym (o .commits .ensures) ∙ f .if1 .left))
 
 leveled-requires : tie.Need-leveled-requires
 leveled-requires c κs = search needs
@@ -64,7 +64,7 @@ returns-2 c = (simp (c .cr0-only .ensures, c .before .enum-told .given .1), simp
 
 returns-3 : tie.Need-returns-3
 unfolding tend
-returns-3 c = (simp (c .leveled .ensures, sym (c .before .before .before .outermost .ensures) ∙ c .before .before .if1 .left, c .before .before .before .before .enum-told2 .given .1), simp (sym (c .before .before .before .outermost .ensures) ∙ c .before .before .if1 .left, c .before .before .before .before .enum-told2 .given .1))
+returns-3 c = (simp (c .leveled .ensures, sym (c .before .before .before .commits .ensures) ∙ c .before .before .if1 .left, c .before .before .before .before .enum-told2 .given .1), simp (sym (c .before .before .before .commits .ensures) ∙ c .before .before .if1 .left, c .before .before .before .before .enum-told2 .given .1))
 
 returns-4 : tie.Need-returns-4
 unfolding tend
@@ -77,7 +77,7 @@ tend-spec =
     enum-told
     cr0-only-requires
     enum-told-2
-    outermost-requires
+    commits-requires
     commit-requires
     ended-requires
     same-length

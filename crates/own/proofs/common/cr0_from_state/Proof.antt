@@ -3,11 +3,11 @@ use borrow.Author.Needs.{needs}
 use Rattle.own.proofs.common.cr0_from_state.Statement.{statement}
 use Rattle.own.proofs.common.cr0_from_state.Tie as tie
 
-ts-requires : tie.Need-ts-requires
-ts-requires c κs = search needs
+ts-field-requires : tie.Need-ts-field-requires
+ts-field-requires c κs = search needs
 
 returns : tie.Need-returns
-returns c = simp (c .ts .ensures .0)
+returns c = simp (c .ts-field .ensures .0)
 
 pub cr0-from-state-spec : {M : Type 1} → statement M
-cr0-from-state-spec = tie.close (tie.spec ts-requires returns)
+cr0-from-state-spec = tie.close (tie.spec ts-field-requires returns)

@@ -7,12 +7,12 @@ use Rattle.own.proofs.plain.interrupt.Tie as tie
 interrupted-requires : tie.Need-interrupted-requires
 interrupted-requires c κs = search needs
 
-at-level-requires : tie.Need-at-level-requires
-at-level-requires c κs = search needs
+with-msr-requires : tie.Need-with-msr-requires
+with-msr-requires c κs = search needs
 
 returns : tie.Need-returns
 unfolding interrupt
-returns c = simp (c .at-level .ensures, c .before .interrupted .ensures)
+returns c = simp (c .with-msr .ensures, c .before .interrupted .ensures)
 
 pub interrupt-spec : {M : Type 1} → statement M
-interrupt-spec = tie.close (tie.spec interrupted-requires at-level-requires returns)
+interrupt-spec = tie.close (tie.spec interrupted-requires with-msr-requires returns)

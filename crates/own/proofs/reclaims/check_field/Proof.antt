@@ -4,20 +4,20 @@ use borrow.Author.Needs.{needs}
 use Rattle.own.proofs.reclaims.check_field.Statement.{statement}
 use Rattle.own.proofs.reclaims.check_field.Tie as tie
 
-ts-requires : tie.Need-ts-requires
-ts-requires c κs = search needs
+ts-field-requires : tie.Need-ts-field-requires
+ts-field-requires c κs = search needs
 
 add-result : tie.Need-add-result
 add-result c = search needs
 
 returns : tie.Need-returns
-returns c = simp (c .ts .ensures .0, c .before .if1 .taken)
+returns c = simp (c .ts-field .ensures .0, c .before .if1 .taken)
 
-ts-requires-2 : tie.Need-ts-requires-2
-ts-requires-2 c κs = search needs
+ts-field-requires-2 : tie.Need-ts-field-requires-2
+ts-field-requires-2 c κs = search needs
 
 returns-2 : tie.Need-returns-2
-returns-2 c = simp (c .ts2 .ensures .0, c .before .if1 .left, zero-add)
+returns-2 c = simp (c .ts-field2 .ensures .0, c .before .if1 .left, zero-add)
 
 pub check-field-spec : {M : Type 1} → statement M
-check-field-spec = tie.close (tie.spec ts-requires add-result returns ts-requires-2 returns-2)
+check-field-spec = tie.close (tie.spec ts-field-requires add-result returns ts-field-requires-2 returns-2)

@@ -13,15 +13,15 @@ own-recording-requires c κs = search needs
 reclaims-requires : tie.Need-reclaims-requires
 reclaims-requires c κs = search needs
 
-ts-requires : tie.Need-ts-requires
-ts-requires c κs = search needs
+ts-field-requires : tie.Need-ts-field-requires
+ts-field-requires c κs = search needs
 
 passes-requires : tie.Need-passes-requires
 passes-requires c κs = search needs
 
 returns : tie.Need-returns
 unfolding treclaim
-returns c = simp (c .passes .ensures, c .before .ts .ensures .0, c .before .before .reclaims .ensures, c .before .before .before .own-recording .ensures, c .before .before .before .before .abort-cause .ensures .0)
+returns c = simp (c .passes .ensures, c .before .ts-field .ensures .0, c .before .before .reclaims .ensures, c .before .before .before .own-recording .ensures, c .before .before .before .before .abort-cause .ensures .0)
 
 pub treclaim-spec : {M : Type 1} → statement M
 treclaim-spec =
@@ -30,6 +30,6 @@ treclaim-spec =
     abort-cause-requires
     own-recording-requires
     reclaims-requires
-    ts-requires
+    ts-field-requires
     passes-requires
     returns)

@@ -1,0 +1,9 @@
+pub mod Held
+pub mod Fails
+pub mod Anew
+pub mod Own
+pub mod Sets
+pub mod Struck
+pub mod Others
+pub mod Parts
+pub mod Keeping

@@ -1,0 +1,31 @@
+-- What is promised of one event, proved in proofs/Keeping.antt.
+use mathlib.Core.Path.{_≡_}
+use mathlib.Core.Bool.{true}
+use mathlib.Core.List.{List}
+use Prim.Native.Nat.{ℕ}
+use lib.ListN.{length}
+use Rattle.event.specs.declared.Event.{Event}
+use Rattle.machine.specs.Valid.{valid}
+use Rattle.machine.specs.Refusal.{refusal}
+use Rattle.machine.specs.Step.{outcome, step}
+use Rattle.machine.specs.declared.Machine.{Machine}
+use Rattle.machine.specs.declared.Done.{Done}
+
+-- from a valid machine every event, refused or not, leaves a valid machine over a memory of the same length
+abbrev pub Keeps : Type 0
+Keeps =
+    (m : Machine) (mem : List ℕ) (w : ℕ) (e : Event) → valid m (length mem) ≡ true
+    → (length (step m mem w e .memory) ≡ length mem) × (valid (step m mem w e .done .machine) (length (step m mem w e .memory)) ≡ true)
+
+-- a refused event gives its number and leaves memory and machine as they were
+abbrev pub RefusedUntouched : Type 0
+RefusedUntouched =
+    (m : Machine) (mem : List ℕ) (w : ℕ) (e : Event) → (refusal m (length mem) w e ≡ 0 → ⊥)
+    → step m mem w e ≡ outcome (refusal m (length mem) w e) m mem
+
+-- two answers that the step's contract allows are one answer, with one machine and one memory
+abbrev pub OneAnswer : Type 0
+OneAnswer =
+    (m : Machine) (mem : List ℕ) (w : ℕ) (e : Event) (a b : Done) (x y : List ℕ)
+    → a ≡ step m mem w e .done → x ≡ step m mem w e .memory → b ≡ step m mem w e .done → y ≡ step m mem w e .memory
+    → (a ≡ b) × (x ≡ y)

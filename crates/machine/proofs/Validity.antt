@@ -1,0 +1,92 @@
+-- What a valid machine and an event that is not refused tell: sizes, the event's thread, its operands.
+use mathlib.Core.Path.{_≡_, refl}
+use mathlib.Core.List.{List}
+use mathlib.Core.Bool.{Bool, true, false, not, cond, _&&_}
+use Prim.Native.Nat.{ℕ, _*_, _%_, _≤_, _<_}
+use native.Mathlib.Omega.{arith}
+use lib.Dec.{eqb, leb}
+use lib.ListN.{length}
+use borrow.Author.Tests.{leb-true, leb-false, lt-ltb, not-false}
+use Rattle.base.specs.Limits.{line-size, lines, most-places, most-threads}
+use Rattle.base.proofs.Below.{and-left, and-right, all-at}
+use Rattle.event.specs.Event.{kind, operands-right}
+use Rattle.event.specs.declared.Event.{Event}
+use Rattle.machine.specs.Machine.{thread}
+use Rattle.machine.specs.Valid.{memory-sized, sized, shaped, aligned, fields-small, state-rules, indices-inside, lines-inside, distinct, writes-logged, held-right, thread-valid, thread-right, threads-right, apart, valid}
+use Rattle.machine.specs.Refusal.{refused-there, refused-later, refusal}
+use Rattle.machine.specs.Step.{outcome, perform, step}
+use Rattle.machine.specs.declared.Machine.{Machine}
+use Rattle.machine.proofs.Laws.{unused-count}
+
+module _ (m : Machine) (len : ℕ) (v : valid m len ≡ true) where
+  pub valid-sized : sized m len ≡ true
+  unfolding valid
+  valid-sized = and-left _ (eqb (length (m .threads)) most-threads) (and-left _ (threads-right m len) (and-left _ (apart m) v))
+
+  pub valid-threads : threads-right m len ≡ true
+  unfolding valid
+  valid-threads = and-right (sized m len && eqb (length (m .threads)) most-threads) _ (and-left _ (apart m) v)
+
+  pub valid-memory-sized : memory-sized len ≡ true
+  unfolding sized
+  valid-memory-sized = and-left _ (leb 1 (m .count)) (and-left _ (leb (m .count) most-threads) valid-sized)
+
+  pub valid-memory : len ≤ line-size * lines
+  valid-memory = leb-true len (line-size * lines) (and-right (eqb (len % line-size) 0 && leb line-size len) _ valid-memory-sized)
+
+  pub valid-count : m .count ≤ most-threads
+  unfolding sized
+  valid-count = leb-true (m .count) most-threads (and-right (memory-sized len && leb 1 (m .count)) _ valid-sized)
+
+  -- a thread below the count is valid, and its log has at most 64 entries
+  pub valid-thread : (w : ℕ) → w < m .count → thread-valid (thread (m .threads) w) len ≡ true
+  unfolding threads-right thread-right
+  valid-thread w h =
+      let a = all-at (thread-right m len) most-threads w valid-threads (omega (arith, valid-count)) in
+      simp (lt-ltb w (m .count) h) at a
+
+  pub valid-places : (w : ℕ) → w < m .count → thread (m .threads) w .transaction .count ≤ most-places
+  unfolding thread-valid held-right
+  valid-places w h =
+      let t = thread (m .threads) w in
+      let x = t .transaction in
+      let held = and-right (shaped t && aligned (t .control) && fields-small t && state-rules (t .control .state) t) (held-right x len) (valid-thread w h) in
+      unused-count x (and-left _ (indices-inside x len) (and-left _ (lines-inside x len) (and-left _ (distinct x) (and-left _ (writes-logged x) held))))
+
+-- an event that passes the later tests has a thread, right operands, and passes those on its thread
+module _ (m : Machine) (len w : ℕ) (e : Event) (z : refused-later m len w e ≡ 0) where
+  -- a choice that gives 0 where its first number is not 0
+  passed : (b : Bool) (n k : ℕ) → (n ≡ 0 → ⊥) → cond b n k ≡ 0 → (b ≡ false) × (k ≡ 0)
+  passed true n k h p = absurd (h p)
+  passed false n k h p = (refl, p)
+
+  there : cond (leb (m .count) w) 3 (cond (not (operands-right e len)) 4 (refused-there (thread (m .threads) w .control) (kind e))) ≡ 0
+  unfolding refused-later
+  there = z
+
+  pub passed-thread : w < m .count
+  passed-thread = leb-false (m .count) w (passed _ 3 _ (λ p. omega arith) there .0)
+
+  after-thread : cond (not (operands-right e len)) 4 (refused-there (thread (m .threads) w .control) (kind e)) ≡ 0
+  after-thread = passed (leb (m .count) w) 3 _ (λ p. omega arith) there .1
+
+  pub passed-operands : operands-right e len ≡ true
+  passed-operands = not-false (operands-right e len) (passed _ 4 _ (λ p. omega arith) after-thread .0)
+
+  pub passed-there : refused-there (thread (m .threads) w .control) (kind e) ≡ 0
+  passed-there = passed (not (operands-right e len)) 4 _ (λ p. omega arith) after-thread .1
+
+-- the step of a refused event, and of one that passes
+module _ (m : Machine) (mem : List ℕ) (w : ℕ) (e : Event) where
+  pub step-refused : (n : ℕ) → refusal m (length mem) w e ≡ n → eqb n 0 ≡ false → step m mem w e ≡ outcome n m mem
+  unfolding step
+  step-refused n p z = simp (p, z)
+
+  pub step-passed : refusal m (length mem) w e ≡ 0 → step m mem w e ≡ perform m mem w e
+  unfolding step
+  step-passed p = simp p
+
+-- on a valid machine only the later tests are left
+pub refusal-valid : (m : Machine) (len w : ℕ) (e : Event) → valid m len ≡ true → refusal m len w e ≡ refused-later m len w e
+unfolding refusal
+refusal-valid m len w e v = simp (valid-sized m len v, v)
