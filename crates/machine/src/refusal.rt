@@ -101,10 +101,12 @@ fn refused_there(k: Control, n: u8) -> u8
     if host_in_t(s, n) {
         return 5;
     }
-    if off(k, n) {
+    let without = off(k, n);
+    let barred = forbidden(k, n);
+    if without {
         return 11;
     }
-    if forbidden(k, n) {
+    if barred {
         return 12;
     }
     if bad_thing(k, n) {

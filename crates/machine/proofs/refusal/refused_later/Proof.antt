@@ -1,5 +1,5 @@
 -- `machine::refusal::refused_later` meets its contract.
-use borrow.Author.Tests.{le-leb, le-ltb, lt-leb, lt-ltb, not-false, not-true}
+use borrow.Author.Tests.{le-leb, lt-leb, not-false, not-true}
 use Rattle.machine.specs.Refusal.{refused-later}
 use mathlib.Core.Path.{sym, _∙_}
 use borrow.Author.Needs.{needs}
@@ -8,14 +8,14 @@ use Rattle.machine.proofs.refusal.refused_later.Tie as tie
 
 returns : tie.Need-returns
 unfolding refused-later
-returns c = simp (le-leb _ _ (c .if1 .taken), le-ltb _ _ (c .if1 .taken))
+returns c = simp (le-leb _ _ (c .if1 .taken))
 
 operands-right-requires : tie.Need-operands-right-requires
 operands-right-requires c κs = search needs
 
 returns-2 : tie.Need-returns-2
 unfolding refused-later
-returns-2 c = simp (sym (c .before .operands-right .ensures) ∙ not-true _ (c .if2 .taken), c .before .operands-right .ensures, lt-ltb _ _ (c .before .before .if1 .left), lt-leb _ _ (c .before .before .if1 .left))
+returns-2 c = simp (sym (c .before .operands-right .ensures) ∙ not-true _ (c .if2 .taken), lt-leb _ _ (c .before .before .if1 .left))
 
 mul-t : tie.Need-mul-t
 mul-t c = search needs
@@ -31,7 +31,7 @@ refused-there-requires c κs = search needs
 
 returns-3 : tie.Need-returns-3
 unfolding refused-later
-returns-3 c = simp (c .refused-there .ensures, c .before .kind .ensures, sym (c .before .before .before .before .before .operands-right .ensures) ∙ not-false _ (c .before .before .before .before .if2 .left), c .before .before .before .before .before .operands-right .ensures, lt-ltb _ _ (c .before .before .before .before .before .before .if1 .left), lt-leb _ _ (c .before .before .before .before .before .before .if1 .left))
+returns-3 c = simp (c .refused-there .ensures, c .before .kind .ensures, sym (c .before .before .before .before .before .operands-right .ensures) ∙ not-false _ (c .before .before .before .before .if2 .left), lt-leb _ _ (c .before .before .before .before .before .before .if1 .left))
 
 pub refused-later-spec : {M : Type 1} → statement M
 refused-later-spec =

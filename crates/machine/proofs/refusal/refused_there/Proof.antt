@@ -15,27 +15,51 @@ returns c = simp (sym (c .before .host-in-t .ensures) ∙ c .if1 .taken)
 off-requires : tie.Need-off-requires
 off-requires c κs = search needs
 
-returns-2 : tie.Need-returns-2
-unfolding refused-there
-returns-2 c = simp (sym (c .before .off .ensures) ∙ c .if2 .taken, sym (c .before .before .before .host-in-t .ensures) ∙ c .before .before .if1 .left)
-
 forbidden-requires : tie.Need-forbidden-requires
 forbidden-requires c κs = search needs
 
+returns-2 : tie.Need-returns-2
+unfolding refused-there
+returns-2 c =
+    let f = c .before in
+    let h = f .before .before in
+    simp (sym (f .before .off .ensures) ∙ c .if2 .taken, sym (h .before .host-in-t .ensures) ∙ h .if1 .left)
+
 returns-3 : tie.Need-returns-3
 unfolding refused-there
-returns-3 c = simp (sym (c .before .forbidden .ensures) ∙ c .if3 .taken, sym (c .before .before .before .off .ensures) ∙ c .before .before .if2 .left, sym (c .before .before .before .before .before .host-in-t .ensures) ∙ c .before .before .before .before .if1 .left)
+returns-3 c =
+    let f = c .before .before in
+    let h = f .before .before in
+    simp (sym (f .forbidden .ensures) ∙ c .if3 .taken, sym (f .before .off .ensures) ∙ c .before .if2 .left, sym (h .before .host-in-t .ensures) ∙ h .if1 .left)
 
 bad-thing-requires : tie.Need-bad-thing-requires
 bad-thing-requires c κs = search needs
 
 returns-4 : tie.Need-returns-4
 unfolding refused-there
-returns-4 c = simp (sym (c .before .bad-thing .ensures) ∙ c .if4 .taken, sym (c .before .before .before .forbidden .ensures) ∙ c .before .before .if3 .left, sym (c .before .before .before .before .before .off .ensures) ∙ c .before .before .before .before .if2 .left, sym (c .before .before .before .before .before .before .before .host-in-t .ensures) ∙ c .before .before .before .before .before .before .if1 .left)
+returns-4 c =
+    let b = c .before .before in
+    let f = b .before .before in
+    let h = f .before .before in
+    simp (
+      sym (c .before .bad-thing .ensures) ∙ c .if4 .taken,
+      sym (f .forbidden .ensures) ∙ b .if3 .left,
+      sym (f .before .off .ensures) ∙ b .before .if2 .left,
+      sym (h .before .host-in-t .ensures) ∙ h .if1 .left,
+    )
 
 returns-5 : tie.Need-returns-5
 unfolding refused-there
-returns-5 c = simp (sym (c .before .bad-thing .ensures) ∙ c .if4 .left, sym (c .before .before .before .forbidden .ensures) ∙ c .before .before .if3 .left, sym (c .before .before .before .before .before .off .ensures) ∙ c .before .before .before .before .if2 .left, sym (c .before .before .before .before .before .before .before .host-in-t .ensures) ∙ c .before .before .before .before .before .before .if1 .left)
+returns-5 c =
+    let b = c .before .before in
+    let f = b .before .before in
+    let h = f .before .before in
+    simp (
+      sym (c .before .bad-thing .ensures) ∙ c .if4 .left,
+      sym (f .forbidden .ensures) ∙ b .if3 .left,
+      sym (f .before .off .ensures) ∙ b .before .if2 .left,
+      sym (h .before .host-in-t .ensures) ∙ h .if1 .left,
+    )
 
 pub refused-there-spec : {M : Type 1} → statement M
 refused-there-spec =
@@ -44,8 +68,8 @@ refused-there-spec =
     host-in-t-requires
     returns
     off-requires
-    returns-2
     forbidden-requires
+    returns-2
     returns-3
     bad-thing-requires
     returns-4
