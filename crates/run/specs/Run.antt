@@ -5,7 +5,7 @@ use mathlib.Core.List.{List}
 use lib.Dec.{eqb}
 use lib.ListN.{length, take, drop}
 use Rattle.machine.specs.Valid.{sized, valid}
-use Rattle.machine.specs.Step.{Outcome, outcome, step}
+use Rattle.machine.specs.Step.{Outcome, step}
 use Rattle.machine.specs.declared.Machine.{Machine}
 use Rattle.tape.specs.Tape.{record-size, read}
 use Rattle.tape.specs.declared.Read.{Read}
@@ -28,18 +28,22 @@ goes-on n = eqb n 0 || eqb n 20 || eqb n 21
 abbrev pub record-at : List ℕ → ℕ → List ℕ
 record-at tape k = take record-size (drop (record-size * k) tape)
 
--- one record read and done: the reader's number, or the step's outcome
-unfoldable pub turn : Read → Machine → List ℕ → Outcome
-turn (Refused n) m mem = outcome n m mem
-turn (Record w e) m mem = step m mem w e
+-- what an event leaves behind k others that were done: it is counted if the run goes on after it
+unfoldable pub counted : Outcome → ℕ → Result
+counted o k = result (o .done .answer) (cond (goes-on (o .done .answer)) (k + 1) k) (o .done .machine) (o .memory)
 
--- the run with n records left and k done
+-- one record read and done: the reader's number ends the run, with the count; else the step's outcome
+unfoldable pub one : Read → Machine → List ℕ → ℕ → Result
+one (Refused n) m mem k = result n k m mem
+one (Record w e) m mem k = counted (step m mem w e) k
+
+-- the run with n records left and k done; it stops at a record that is not counted
 unfoldable pub run-from : ℕ → List ℕ → ℕ → Machine → List ℕ → Result
 run-from zero tape k m mem = result 0 k m mem
 run-from (suc n) tape k m mem =
-    let o = turn (read (record-at tape k)) m mem in
-    let next = run-from n tape (k + 1) (o .done .machine) (o .memory) in
-    cond (goes-on (o .done .answer)) next (result (o .done .answer) k (o .done .machine) (o .memory))
+    let r = one (read (record-at tape k)) m mem k in
+    let rest = run-from n tape (k + 1) (r .ended .machine) (r .memory) in
+    cond (eqb (r .ended .count) k) r rest
 
 -- a run first tests 1, 2 and 6 in that order, even for an empty tape
 unfoldable pub run : Machine → List ℕ → List ℕ → Result

@@ -1,21 +1,12 @@
 -- What a record holds, whatever its layout: kind, thread, X, RA, RB, flags, index and SI; and which event that is (document 01, "The tape").
 use Prim.Native.Nat.{ℕ, _+_, _*_, _/_, _%_}
-use mathlib.Core.Bool.{Bool, true, false, cond, _&&_, _||_}
+use mathlib.Core.Bool.{Bool, false, cond, _&&_, _||_}
 use mathlib.Core.List.{List, [], _∷_}
 use lib.Dec.{eqb, leb}
 use Rattle.base.specs.Below.{bit}
 use Rattle.event.specs.declared.Event.{Event}
 use Rattle.event.specs.declared.Event.the-variants.{Tbegin, Tend, Tabort, Tabortwc, Tabortdc, Tsr, Tcheck, Treclaim, Trechkpt, Mtspr, Mfspr, Ld, Std, Addi, Disallowed, Interrupt, Host}
-
-pub record Fields : Type 0 where
-  pub kind : ℕ
-  pub thread : ℕ
-  pub x : ℕ
-  pub ra : ℕ
-  pub rb : ℕ
-  pub flags : ℕ
-  pub index : ℕ
-  pub si : ℕ
+use Rattle.tape.specs.declared.Fields.{Fields}
 
 -- kinds 1 to 17
 abbrev pub kind-right : ℕ → Bool
@@ -44,15 +35,16 @@ uses-si k = eqb k 14
 abbrev pub most-flags : ℕ → ℕ
 most-flags k = cond (one-of k (1 ∷ 2 ∷ 6 ∷ [])) 1 (cond (eqb k 17) 3 0)
 
--- every unused field is 0 and the flags are not too big
+-- every field but the used ones is 0 and the flags are not too big
+unfoldable pub clear-but : Fields → (x ra rb : Bool) (flags : ℕ) (index si : Bool) → Bool
+clear-but f x ra rb flags index si =
+    (x || eqb (f .x) 0) && (ra || eqb (f .ra) 0) && (rb || eqb (f .rb) 0) && leb (f .flags) flags
+    && (index || eqb (f .index) 0) && (si || eqb (f .si) 0)
+
+-- every field that the kind does not use is 0 and the flags are not too big
 unfoldable pub unused-clear : Fields → Bool
 unused-clear f =
-    (uses-x (f .kind) || eqb (f .x) 0)
-    && (uses-ra (f .kind) || eqb (f .ra) 0)
-    && (uses-rb (f .kind) || eqb (f .rb) 0)
-    && leb (f .flags) (most-flags (f .kind))
-    && (uses-index (f .kind) || eqb (f .index) 0)
-    && (uses-si (f .kind) || eqb (f .si) 0)
+    clear-but f (uses-x (f .kind)) (uses-ra (f .kind)) (uses-rb (f .kind)) (most-flags (f .kind)) (uses-index (f .kind)) (uses-si (f .kind))
 
 -- the event of fields of a right kind. X is SPR, BF or TO, else RT; RA is RT for mfspr
 unfoldable pub event-of : Fields → Event

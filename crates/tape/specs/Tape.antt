@@ -6,10 +6,12 @@ use lib.Dec.{eqb, ltb}
 use lib.ListN.{getD, length}
 use lib.Seq.{sets}
 use Rattle.event.specs.declared.Event.{Event}
-use Rattle.tape.specs.Fields.{Fields, kind-right, unused-clear, event-of, fields-of}
+use Rattle.tape.specs.Fields.{kind-right, unused-clear, event-of, fields-of}
+use Rattle.tape.specs.declared.Fields.{Fields}
 use Rattle.tape.specs.declared.Read.{Read}
 use Rattle.tape.specs.declared.Read.the-variants.{Record, Refused}
 
+-- src/lib.rt has the same two numbers for the code
 abbrev pub record-size : ℕ
 record-size = 16
 
@@ -49,14 +51,20 @@ bytes f =
     ∷ f .index / 256 / 256 / 256 % 256 ∷ f .index / 256 / 256 % 256 ∷ f .index / 256 % 256 ∷ f .index % 256
     ∷ f .si / 256 % 256 ∷ f .si % 256 ∷ 0 ∷ 0 ∷ []
 
+-- number 9, or the thread and the event: clear says that every unused field and every fixed 0 byte is 0 and the flags are not too big
+unfoldable pub judged : Fields → Bool → Read
+judged f clear = cond (not clear) (Refused 9) (Record (f .thread) (event-of f))
+
+-- numbers 8 and 9 in their order, or the thread and the event; zero says that every fixed 0 byte is 0
+unfoldable pub of-kind : Fields → Bool → Read
+of-kind f zero = cond (not (kind-right (f .kind))) (Refused 8) (judged f (zero && unused-clear f))
+
 -- the reader: the numbers 6, 7, 8, 9 in their order, or the thread and the event
 unfoldable pub read : List ℕ → Read
 read bs =
     cond (not (eqb (length bs) record-size)) (Refused 6)
     (cond (not (eqb (byte bs 0) first-byte)) (Refused 7)
-    (cond (not (kind-right (byte bs 1))) (Refused 8)
-    (cond (not (fixed-zero bs && unused-clear (fields-at bs))) (Refused 9)
-    (Record (byte bs 2) (event-of (fields-at bs))))))
+    (of-kind (fields-at bs) (fixed-zero bs)))
 
 -- the number of an answer: 0 for a record, or the number by which it is refused
 abbrev pub number : Read → ℕ

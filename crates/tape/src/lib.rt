@@ -1,8 +1,43 @@
 // The tape: records of 16 bytes, one event each (document 01, "The tape").
+pub mod reader;
+pub mod writer;
+
+ghost use mathlib.Core.Path.{_≡_};
+ghost use Rattle.tape.specs.Tape.{number};
 use event::Event;
+
+// A record's length, and its first byte. specs/Tape.antt has the same numbers for the definitions.
+pub const RECORD_SIZE: usize = 16;
+
+pub const FIRST_BYTE: u8 = 0xE3;
+
+// What a record holds, whatever its layout. X is SPR, BF or TO, else RT; RA is RT for mfspr; flags are R, A, L or PR + 2 x TM.
+pub struct Fields {
+    pub kind: u8,
+    pub thread: u8,
+    pub x: u8,
+    pub ra: u8,
+    pub rb: u8,
+    pub flags: u8,
+    pub index: u32,
+    pub si: u16,
+}
 
 // What the reader answers: the thread and the event of a record, or the number by which it is refused: 6, 7, 8 or 9.
 pub enum Read {
     Record { thread: u8, event: Event },
     Refused(u8),
+}
+
+// The number of the reader's answer: 0 for a record.
+pub fn number(r: Read) -> u8
+    ensures { λ n. ⌜ n ≡ number r ⌝ }
+{
+    match r {
+        Read::Record {
+            thread: _,
+            event: _,
+        } => 0,
+        Read::Refused(n) => n,
+    }
 }

@@ -1,0 +1,129 @@
+-- A run is its steps.
+use mathlib.Core.Path.{_≡_, refl, sym, ap, _∙_, subst}
+use mathlib.Core.Bool.{Bool, true, false, not, true≢false}
+use mathlib.Core.List.{List, [], _∷_, _++_}
+use Prim.Native.Nat.{ℕ, zero, suc, _+_, _-_, _/_, _%_}
+use native.Mathlib.Decide.{ℕ-discrete}
+use native.Mathlib.Omega.{arith}
+use borrow.Author.Tests.{eq-eqb, ne-eqb, eqb-true}
+use lib.Dec.{eqb}
+use lib.ListN.{length}
+use Rattle.event.specs.declared.Event.{Event}
+use Rattle.machine.specs.Machine.{thread}
+use Rattle.machine.specs.Valid.{sized, valid}
+use Rattle.machine.specs.Refusal.{refusal}
+use Rattle.machine.specs.Step.{Outcome, outcome, perform, step, Fed, feed}
+use Rattle.machine.specs.declared.Machine.{Machine}
+use Rattle.machine.proofs.Validity.{step-refused, step-passed}
+use Rattle.tape.specs.Tape.{record-size, read}
+use Rattle.tape.specs.declared.Read.{Read}
+use Rattle.tape.specs.declared.Read.the-variants.{Record, Refused}
+use Rattle.run.specs.Run.{Result, result, goes-on, record-at, counted, one, run-from, run}
+use Rattle.run.specs.Steps.{fed, events, RunIsSteps, StopChangesNothing}
+use Rattle.keeping.proofs.Sets.{cond-keeps}
+use Rattle.run.proofs.Laws.{is-counted, not-counted, run-stops, run-goes}
+use Rattle.run.proofs.Answers.{own-done}
+
+-- an event that is not refused goes on
+passed-goes : (m : Machine) (mem : List ℕ) (w : ℕ) (e : Event) → goes-on (perform m mem w e .done .answer) ≡ true
+unfolding perform
+passed-goes m mem w e = own-done e (thread (m .threads) w) mem
+
+pub stop-changes-nothing : StopChangesNothing
+stop-changes-nothing m mem w e p = go (ℕ-discrete (refusal m (length mem) w e) 0)
+  where
+    go : Dec (refusal m (length mem) w e ≡ 0) → (step m mem w e .done .machine ≡ m) × (step m mem w e .memory ≡ mem)
+    go (yes z) = absurd (true≢false (sym (passed-goes m mem w e) ∙ ap (λ (o : Outcome). goes-on (o .done .answer)) (sym (step-passed m mem w e z)) ∙ p))
+    go (no n) =
+        let o = step-refused m mem w e _ refl (ne-eqb _ 0 n) in
+        (ap (λ (x : Outcome). x .done .machine) o, ap (λ (x : Outcome). x .memory) o)
+
+-- a record that is not counted changes nothing; one that is counted is its step
+one-stops : (r : Read) (m : Machine) (mem : List ℕ) (k : ℕ) → eqb (one r m mem k .ended .count) k ≡ true → (one r m mem k .ended .machine ≡ m) × (one r m mem k .memory ≡ mem)
+unfolding one counted
+one-stops (Refused n) m mem k p = (refl, refl)
+one-stops (Record w e) m mem k p = go (goes-on (step m mem w e .done .answer)) refl
+  where
+    go : (b : Bool) → goes-on (step m mem w e .done .answer) ≡ b → (counted (step m mem w e) k .ended .machine ≡ m) × (counted (step m mem w e) k .memory ≡ mem)
+    go true q = absurd (true≢false (sym p ∙ ap (λ (c : Result). eqb (c .ended .count) k) (is-counted (step m mem w e) k q) ∙ ne-eqb (k + 1) k (λ (z : k + 1 ≡ k). omega arith)))
+    go false q = stop-changes-nothing m mem w e q
+
+-- a record that is counted was an event, and is its step
+pub record Counts (r : Read) (m : Machine) (mem : List ℕ) (k : ℕ) : Type 0 where
+  pub w : ℕ
+  pub e : Event
+  pub is : r ≡ Record w e
+  pub whole : one r m mem k ≡ result (step m mem w e .done .answer) (k + 1) (step m mem w e .done .machine) (step m mem w e .memory)
+
+one-counts : (r : Read) (m : Machine) (mem : List ℕ) (k : ℕ) → eqb (one r m mem k .ended .count) k ≡ false → Counts r m mem k
+unfolding one
+one-counts (Refused n) m mem k p = absurd (true≢false (sym (eq-eqb k k refl) ∙ p))
+one-counts (Record v f) m mem k p = go (goes-on (step m mem v f .done .answer)) refl
+  where
+    go : (b : Bool) → goes-on (step m mem v f .done .answer) ≡ b → Counts (Record v f) m mem k
+    go true q = record { w = v; e = f; is = refl; whole = is-counted (step m mem v f) k q }
+    go false q = absurd (true≢false (sym (eq-eqb k k refl) ∙ sym (ap (λ (c : Result). eqb (c .ended .count) k) (not-counted (step m mem v f) k q)) ∙ p))
+
+-- from record k on: c records more are counted, and what is left is what they give
+pub record After (tape : List ℕ) (k : ℕ) (o : Outcome) (r : Result) : Type 0 where
+  pub c : ℕ
+  pub count : r .ended .count ≡ k + c
+  pub machine : r .ended .machine ≡ feed (events tape k c) o .done .machine
+  pub memory : r .memory ≡ feed (events tape k c) o .memory
+
+nothing : (tape : List ℕ) (k : ℕ) (o : Outcome) (r : Result) → r .ended .count ≡ k → r .ended .machine ≡ o .done .machine → r .memory ≡ o .memory → After tape k o r
+unfolding events feed
+nothing tape k o r p q s = record { c = 0; count = p ∙ (let e : k ≡ k + 0 = omega arith in e); machine = q; memory = s }
+
+another : (tape : List ℕ) (k : ℕ) (o : Outcome) (r : Result) (w : ℕ) (e : Event) → read (record-at tape k) ≡ Record w e
+    → After tape (k + 1) (step (o .done .machine) (o .memory) w e) r → After tape k o r
+unfolding events feed
+another tape k o r w e p a =
+    let f : fed (read (record-at tape k)) ≡ record { by = w; event = e } ∷ [] = ap fed p in
+    record {
+      c = suc (a .c);
+      count = a .count ∙ (let z : k + 1 + a .c ≡ k + suc (a .c) = omega arith in z);
+      machine = a .machine ∙ sym (ap (λ (l : List Fed). feed (l ++ events tape (k + 1) (a .c)) o .done .machine) f);
+      memory = a .memory ∙ sym (ap (λ (l : List Fed). feed (l ++ events tape (k + 1) (a .c)) o .memory) f);
+    }
+
+steps : (n : ℕ) (tape : List ℕ) (k : ℕ) (o : Outcome) → After tape k o (run-from n tape k (o .done .machine) (o .memory))
+unfolding run-from
+steps zero tape k o = nothing tape k o _ refl refl refl
+steps (suc n) tape k o = go (eqb (one (read (record-at tape k)) (o .done .machine) (o .memory) k .ended .count) k) refl (λ p. steps n tape (k + 1) p)
+  where
+    t : Result
+    t = one (read (record-at tape k)) (o .done .machine) (o .memory) k
+
+    go : (b : Bool) → eqb (t .ended .count) k ≡ b → ((p : Outcome) → After tape (k + 1) p (run-from n tape (k + 1) (p .done .machine) (p .memory)))
+        → After tape k o (run-from (suc n) tape k (o .done .machine) (o .memory))
+    go true q ih =
+        let w = run-stops tape k (o .done .machine) (o .memory) (suc n) (omega arith) q in
+        let z = one-stops (read (record-at tape k)) (o .done .machine) (o .memory) k q in
+        nothing tape k o _ (ap (λ (x : Result). x .ended .count) w ∙ eqb-true _ _ q) (ap (λ (x : Result). x .ended .machine) w ∙ z .0) (ap (λ (x : Result). x .memory) w ∙ z .1)
+    go false q ih =
+        let c = one-counts (read (record-at tape k)) (o .done .machine) (o .memory) k q in
+        let p = step (o .done .machine) (o .memory) (c .w) (c .e) in
+        let w = run-goes tape k (o .done .machine) (o .memory) (suc n) (omega arith) q in
+        let i : suc n - 1 ≡ n = omega arith in
+        let same : run-from (suc n) tape k (o .done .machine) (o .memory) ≡ run-from n tape (k + 1) (p .done .machine) (p .memory) =
+        w ∙ (λ j. run-from (i j) tape (k + 1) (c .whole j .ended .machine) (c .whole j .memory)) in
+        subst (λ (r : Result). After tape k o r) (sym same) (another tape k o _ (c .w) (c .e) (c .is) (ih p))
+
+-- a run's tests leave everything as it was, and then the records are taken
+run-after : (m : Machine) (mem tape : List ℕ) → After tape 0 (outcome 0 m mem) (run m mem tape)
+unfolding run
+run-after m mem tape =
+    let o = outcome 0 m mem in
+    let left : (n : ℕ) → After tape 0 o (result n 0 m mem) = λ n. nothing tape 0 o (result n 0 m mem) refl refl refl in
+    cond-keeps (After tape 0 o) (not (sized m (length mem))) _ _ (left 1)
+    (cond-keeps (After tape 0 o) (not (valid m (length mem))) _ _ (left 2)
+    (cond-keeps (After tape 0 o) (not (eqb (length tape % record-size) 0)) _ _ (left 6) (steps (length tape / record-size) tape 0 o)))
+
+pub run-is-steps : RunIsSteps
+run-is-steps m mem tape =
+    let a = run-after m mem tape in
+    let e : a .c ≡ run m mem tape .ended .count = omega (arith, a .count) in (
+      a .machine ∙ ap (λ (n : ℕ). feed (events tape 0 n) (outcome 0 m mem) .done .machine) e,
+      a .memory ∙ ap (λ (n : ℕ). feed (events tape 0 n) (outcome 0 m mem) .memory) e,
+    )

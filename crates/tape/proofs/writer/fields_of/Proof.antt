@@ -1,0 +1,259 @@
+-- `tape::writer::fields_of` meets its contract.
+use Rattle.tape.specs.Fields.{fields-of}
+use borrow.Author.Needs.{needs}
+use Rattle.tape.proofs.writer.fields_of.Statement.{statement}
+use Rattle.tape.proofs.writer.fields_of.Tie as tie
+
+enum-known-e : tie.Need-enum-known-e
+enum-known-e c = search needs
+
+flag-requires : tie.Need-flag-requires
+flag-requires c κs = search needs
+
+filled-requires : tie.Need-filled-requires
+filled-requires c κs = search needs
+
+enum-known-e-2 : tie.Need-enum-known-e-2
+enum-known-e-2 c = search needs
+
+flag-requires-2 : tie.Need-flag-requires-2
+flag-requires-2 c κs = search needs
+
+filled-requires-2 : tie.Need-filled-requires-2
+filled-requires-2 c κs = search needs
+
+enum-known-e-3 : tie.Need-enum-known-e-3
+enum-known-e-3 c = search needs
+
+filled-requires-3 : tie.Need-filled-requires-3
+filled-requires-3 c κs = search needs
+
+enum-known-e-4 : tie.Need-enum-known-e-4
+enum-known-e-4 c = search needs
+
+filled-requires-4 : tie.Need-filled-requires-4
+filled-requires-4 c κs = search needs
+
+enum-known-e-5 : tie.Need-enum-known-e-5
+enum-known-e-5 c = search needs
+
+filled-requires-5 : tie.Need-filled-requires-5
+filled-requires-5 c κs = search needs
+
+enum-known-e-6 : tie.Need-enum-known-e-6
+enum-known-e-6 c = search needs
+
+flag-requires-3 : tie.Need-flag-requires-3
+flag-requires-3 c κs = search needs
+
+filled-requires-6 : tie.Need-filled-requires-6
+filled-requires-6 c κs = search needs
+
+enum-known-e-7 : tie.Need-enum-known-e-7
+enum-known-e-7 c = search needs
+
+filled-requires-7 : tie.Need-filled-requires-7
+filled-requires-7 c κs = search needs
+
+enum-known-e-8 : tie.Need-enum-known-e-8
+enum-known-e-8 c = search needs
+
+filled-requires-8 : tie.Need-filled-requires-8
+filled-requires-8 c κs = search needs
+
+enum-told : tie.Need-enum-told
+enum-told c = search needs
+
+filled-requires-9 : tie.Need-filled-requires-9
+filled-requires-9 c κs = search needs
+
+enum-known-e-9 : tie.Need-enum-known-e-9
+enum-known-e-9 c = search needs
+
+filled-requires-10 : tie.Need-filled-requires-10
+filled-requires-10 c κs = search needs
+
+enum-known-e-10 : tie.Need-enum-known-e-10
+enum-known-e-10 c = search needs
+
+filled-requires-11 : tie.Need-filled-requires-11
+filled-requires-11 c κs = search needs
+
+enum-known-e-11 : tie.Need-enum-known-e-11
+enum-known-e-11 c = search needs
+
+filled-requires-12 : tie.Need-filled-requires-12
+filled-requires-12 c κs = search needs
+
+enum-known-e-12 : tie.Need-enum-known-e-12
+enum-known-e-12 c = search needs
+
+filled-requires-13 : tie.Need-filled-requires-13
+filled-requires-13 c κs = search needs
+
+enum-known-e-13 : tie.Need-enum-known-e-13
+enum-known-e-13 c = search needs
+
+filled-requires-14 : tie.Need-filled-requires-14
+filled-requires-14 c κs = search needs
+
+enum-told-2 : tie.Need-enum-told-2
+enum-told-2 c = search needs
+
+filled-requires-15 : tie.Need-filled-requires-15
+filled-requires-15 c κs = search needs
+
+enum-told-3 : tie.Need-enum-told-3
+enum-told-3 c = search needs
+
+filled-requires-16 : tie.Need-filled-requires-16
+filled-requires-16 c κs = search needs
+
+enum-known-e-14 : tie.Need-enum-known-e-14
+enum-known-e-14 c = search needs
+
+flag-requires-4 : tie.Need-flag-requires-4
+flag-requires-4 c κs = search needs
+
+flag-requires-5 : tie.Need-flag-requires-5
+flag-requires-5 c κs = search needs
+
+mul-filled : tie.Need-mul-filled
+mul-filled c = search needs
+
+add-filled : tie.Need-add-filled
+add-filled c = search needs
+
+filled-requires-17 : tie.Need-filled-requires-17
+filled-requires-17 c κs = search needs
+
+returns : tie.Need-returns
+unfolding fields-of
+returns c = simp (c .filled .ensures, c .before .flag .ensures .0, c .before .before .before .e .given .1)
+
+returns-2 : tie.Need-returns-2
+unfolding fields-of
+returns-2 c = simp (c .filled2 .ensures, c .before .flag2 .ensures .0, c .before .before .before .e2 .given .1)
+
+returns-3 : tie.Need-returns-3
+unfolding fields-of
+returns-3 c = simp (c .filled3 .ensures, c .before .before .e3 .given .1)
+
+returns-4 : tie.Need-returns-4
+unfolding fields-of
+returns-4 c = simp (c .filled4 .ensures, c .before .before .e4 .given .1)
+
+returns-5 : tie.Need-returns-5
+unfolding fields-of
+returns-5 c = simp (c .filled5 .ensures, c .before .before .e5 .given .1)
+
+returns-6 : tie.Need-returns-6
+unfolding fields-of
+returns-6 c = simp (c .filled6 .ensures, c .before .flag3 .ensures .0, c .before .before .before .e6 .given .1)
+
+returns-7 : tie.Need-returns-7
+unfolding fields-of
+returns-7 c = simp (c .filled7 .ensures, c .before .before .e7 .given .1)
+
+returns-8 : tie.Need-returns-8
+unfolding fields-of
+returns-8 c = simp (c .filled8 .ensures, c .before .before .e8 .given .1)
+
+returns-9 : tie.Need-returns-9
+unfolding fields-of
+returns-9 c = simp (c .filled9 .ensures, c .before .enum-told .given .1)
+
+returns-10 : tie.Need-returns-10
+unfolding fields-of
+returns-10 c = simp (c .filled10 .ensures, c .before .before .e9 .given .1)
+
+returns-11 : tie.Need-returns-11
+unfolding fields-of
+returns-11 c = simp (c .filled11 .ensures, c .before .before .e10 .given .1)
+
+returns-12 : tie.Need-returns-12
+unfolding fields-of
+returns-12 c = simp (c .filled12 .ensures, c .before .before .e11 .given .1)
+
+returns-13 : tie.Need-returns-13
+unfolding fields-of
+returns-13 c = simp (c .filled13 .ensures, c .before .before .e12 .given .1)
+
+returns-14 : tie.Need-returns-14
+unfolding fields-of
+returns-14 c = simp (c .filled14 .ensures, c .before .before .e13 .given .1)
+
+returns-15 : tie.Need-returns-15
+unfolding fields-of
+returns-15 c = simp (c .filled15 .ensures, c .before .enum-told2 .given .1)
+
+returns-16 : tie.Need-returns-16
+unfolding fields-of
+returns-16 c = simp (c .filled16 .ensures, c .before .enum-told3 .given .1)
+
+returns-17 : tie.Need-returns-17
+unfolding fields-of
+returns-17 c = simp (c .filled17 .ensures, c .before .flag5 .ensures .0, c .before .before .flag4 .ensures .0, c .before .before .before .before .e14 .given .1)
+
+pub fields-of-spec : {M : Type 1} → statement M
+fields-of-spec =
+    tie.close
+    (tie.spec
+    enum-known-e
+    flag-requires
+    filled-requires
+    enum-known-e-2
+    flag-requires-2
+    filled-requires-2
+    enum-known-e-3
+    filled-requires-3
+    enum-known-e-4
+    filled-requires-4
+    enum-known-e-5
+    filled-requires-5
+    enum-known-e-6
+    flag-requires-3
+    filled-requires-6
+    enum-known-e-7
+    filled-requires-7
+    enum-known-e-8
+    filled-requires-8
+    enum-told
+    filled-requires-9
+    enum-known-e-9
+    filled-requires-10
+    enum-known-e-10
+    filled-requires-11
+    enum-known-e-11
+    filled-requires-12
+    enum-known-e-12
+    filled-requires-13
+    enum-known-e-13
+    filled-requires-14
+    enum-told-2
+    filled-requires-15
+    enum-told-3
+    filled-requires-16
+    enum-known-e-14
+    flag-requires-4
+    flag-requires-5
+    mul-filled
+    add-filled
+    filled-requires-17
+    returns
+    returns-2
+    returns-3
+    returns-4
+    returns-5
+    returns-6
+    returns-7
+    returns-8
+    returns-9
+    returns-10
+    returns-11
+    returns-12
+    returns-13
+    returns-14
+    returns-15
+    returns-16
+    returns-17)
