@@ -4,7 +4,6 @@ ghost use Prim.Native.Nat.{_<_, _≤_};
 ghost use lib.ListN.{length};
 ghost use Rattle.base.specs.Limits.{lines, most-places};
 ghost use Rattle.transaction.specs.Transaction.{line, touches};
-ghost use Rattle.thread.specs.declared.State.the-variants.{T};
 ghost use Rattle.own.specs.Events.{tracked, takes, joins, ld, logs, meets-own, std};
 use crate::Did;
 use crate::common;
@@ -52,7 +51,7 @@ fn ld_transactional(t: Thread, rt: u8, index: u32, mem: &[u64]) -> Did
     requires { ⌜ rt < 32 ⌝ }
     requires { ⌜ line index < lines ⌝ }
     requires { ⌜ index < length (now mem) ⌝ }
-    ensures { λ d. ⌜ d ≡ ld T t rt index (now (mem .entry)) ⌝ }
+    ensures { λ d. ⌜ d ≡ ld State.T t rt index (now (mem .entry)) ⌝ }
 {
     if tracked(t) {
         let x = t.transaction;

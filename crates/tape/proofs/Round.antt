@@ -15,7 +15,7 @@ use Rattle.event.specs.declared.Event.{Event}
 use Rattle.event.specs.declared.Event.the-variants.{Tbegin, Tend, Tabort, Tabortwc, Tabortdc, Tsr, Tcheck, Treclaim, Trechkpt, Mtspr, Mfspr, Ld, Std, Addi, Disallowed, Interrupt, Host}
 use Rattle.tape.specs.Fields.{kind-right, one-of, uses-x, uses-ra, uses-rb, uses-index, uses-si, most-flags, clear-but, unused-clear, event-of, fields, fields-of}
 use Rattle.tape.specs.Tape.{record-size, first-byte, byte, two, four, fields-at, fixed-zero, bytes, judged, of-kind, read}
-use Rattle.tape.specs.Round.{Fits, FieldsFit, Bytes, EventKept, FieldsKept, Layout, Means, LayoutReadsWritten, LayoutWritesRead, accepts, ReadsWritten, WritesRead, OneRecord, OneMeaning, EditionTwo, PaperRecord}
+use Rattle.tape.specs.Round.{InRange, FieldsFit, Bytes, EventKept, FieldsKept, Layout, Means, LayoutReadsWritten, LayoutWritesRead, accepts, ReadsWritten, WritesRead, OneRecord, OneMeaning, EditionTwo, PaperRecord}
 use Rattle.tape.proofs.Laws.{begun-right}
 use Rattle.tape.specs.declared.Fields.{Fields}
 use Rattle.tape.specs.declared.Read.{Read}
@@ -82,7 +82,7 @@ event-kept w e =
     let t = taken (fields-of w e) true w e (written w e) in
     (t .right, t .clear, t .event)
 
-fields-fit : (w : ℕ) (e : Event) → w < 256 → Fits e → FieldsFit (fields-of w e)
+fields-fit : (w : ℕ) (e : Event) → w < 256 → InRange e → FieldsFit (fields-of w e)
 unfolding fields-of
 fields-fit w (Tbegin true) h fits = omega arith
 fields-fit w (Tbegin false) h fits = omega arith

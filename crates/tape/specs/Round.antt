@@ -15,24 +15,24 @@ use Rattle.tape.specs.declared.Read.the-variants.{Record, Refused}
 -- ---- values that fit their types
 
 -- operands: a byte each, an index of 32 bits, an SI of 16
-abbrev pub Fits : Event → Type 0
-Fits (Tbegin r) = Unit {0}
-Fits (Tend a) = Unit {0}
-Fits (Tabort ra) = ra < 256
-Fits (Tabortwc to ra rb) = (to < 256) × (ra < 256) × (rb < 256)
-Fits (Tabortdc to ra rb) = (to < 256) × (ra < 256) × (rb < 256)
-Fits (Tsr l) = Unit {0}
-Fits (Tcheck bf) = bf < 256
-Fits (Treclaim ra) = ra < 256
-Fits Trechkpt = Unit {0}
-Fits (Mtspr spr ra) = (spr < 256) × (ra < 256)
-Fits (Mfspr rt spr) = (rt < 256) × (spr < 256)
-Fits (Ld rt i) = (rt < 256) × (i < 2 ^ 32)
-Fits (Std ra i) = (ra < 256) × (i < 2 ^ 32)
-Fits (Addi rt ra si) = (rt < 256) × (ra < 256) × (si < 2 ^ 16)
-Fits Disallowed = Unit {0}
-Fits Interrupt = Unit {0}
-Fits (Host pr tm) = Unit {0}
+abbrev pub InRange : Event → Type 0
+InRange (Tbegin r) = Unit {0}
+InRange (Tend a) = Unit {0}
+InRange (Tabort ra) = ra < 256
+InRange (Tabortwc to ra rb) = (to < 256) × (ra < 256) × (rb < 256)
+InRange (Tabortdc to ra rb) = (to < 256) × (ra < 256) × (rb < 256)
+InRange (Tsr l) = Unit {0}
+InRange (Tcheck bf) = bf < 256
+InRange (Treclaim ra) = ra < 256
+InRange Trechkpt = Unit {0}
+InRange (Mtspr spr ra) = (spr < 256) × (ra < 256)
+InRange (Mfspr rt spr) = (rt < 256) × (spr < 256)
+InRange (Ld rt i) = (rt < 256) × (i < 2 ^ 32)
+InRange (Std ra i) = (ra < 256) × (i < 2 ^ 32)
+InRange (Addi rt ra si) = (rt < 256) × (ra < 256) × (si < 2 ^ 16)
+InRange Disallowed = Unit {0}
+InRange Interrupt = Unit {0}
+InRange (Host pr tm) = Unit {0}
 
 pub record FieldsFit (f : Fields) : Type 0 where
   pub kind : f .kind < 256
@@ -79,7 +79,7 @@ abbrev pub Means : Layout → List ℕ → ℕ → Event → Type 0
 Means l bs w e = (length bs ≡ l .size) × (l .accepts bs ≡ true) × (of-kind (l .of-bytes bs) true ≡ Record w e)
 
 abbrev pub LayoutReadsWritten : Type 0
-LayoutReadsWritten = (l : Layout) (w : ℕ) (e : Event) → w < 256 → Fits e → Means l (l .to-bytes (fields-of w e)) w e
+LayoutReadsWritten = (l : Layout) (w : ℕ) (e : Event) → w < 256 → InRange e → Means l (l .to-bytes (fields-of w e)) w e
 
 abbrev pub LayoutWritesRead : Type 0
 LayoutWritesRead = (l : Layout) (bs : List ℕ) (w : ℕ) (e : Event) → Bytes bs → Means l bs w e → l .to-bytes (fields-of w e) ≡ bs
@@ -91,7 +91,7 @@ accepts bs = eqb (byte bs 0) first-byte && fixed-zero bs
 
 -- every event that is written is read
 abbrev pub ReadsWritten : Type 0
-ReadsWritten = (w : ℕ) (e : Event) → w < 256 → Fits e → read (bytes (fields-of w e)) ≡ Record w e
+ReadsWritten = (w : ℕ) (e : Event) → w < 256 → InRange e → read (bytes (fields-of w e)) ≡ Record w e
 
 -- every record that is read is what its event is written as
 abbrev pub WritesRead : Type 0

@@ -1,0 +1,50 @@
+//! "Events": one case for each kind, with its operands and nothing else.
+
+/// One event. Registers, BF, TO and SPR may be any byte and an index any 32
+/// bits; what is out of range is refused when the event is done.
+#[derive(Clone, Copy, PartialEq, Eq, Hash, Debug)]
+pub enum Event {
+    Tbegin { r: bool },
+    Tend { a: bool },
+    Tabort { ra: u8 },
+    Tabortwc { to: u8, ra: u8, rb: u8 },
+    Tabortdc { to: u8, ra: u8, rb: u8 },
+    Tsr { l: bool },
+    Tcheck { bf: u8 },
+    Treclaim { ra: u8 },
+    Trechkpt,
+    Mtspr { spr: u8, ra: u8 },
+    Mfspr { rt: u8, spr: u8 },
+    Ld { rt: u8, index: u32 },
+    Std { ra: u8, index: u32 },
+    Addi { rt: u8, ra: u8, si: u16 },
+    Disallowed,
+    Interrupt,
+    Host { pr: bool, tm: bool },
+}
+
+impl Event {
+    /// The number of the event in "Events", 1 to 17.
+    #[inline]
+    pub fn kind(&self) -> u8 {
+        match self {
+            Event::Tbegin { .. } => 1,
+            Event::Tend { .. } => 2,
+            Event::Tabort { .. } => 3,
+            Event::Tabortwc { .. } => 4,
+            Event::Tabortdc { .. } => 5,
+            Event::Tsr { .. } => 6,
+            Event::Tcheck { .. } => 7,
+            Event::Treclaim { .. } => 8,
+            Event::Trechkpt => 9,
+            Event::Mtspr { .. } => 10,
+            Event::Mfspr { .. } => 11,
+            Event::Ld { .. } => 12,
+            Event::Std { .. } => 13,
+            Event::Addi { .. } => 14,
+            Event::Disallowed => 15,
+            Event::Interrupt => 16,
+            Event::Host { .. } => 17,
+        }
+    }
+}

@@ -1,0 +1,30 @@
+//! The machine of document 01 in ordinary Rust: state changed in place, no
+//! allocation on the way of an event, no dependencies.
+//!
+//! Comments name the section of document 01 that a piece of code follows.
+//!
+//! - [`machine`]: the state and what makes it valid.
+//! - [`event`]: the seventeen events.
+//! - [`step`](mod@step): doing one event.
+//! - [`tape`]: reading and writing records.
+//! - [`run`](mod@run): running a tape, and the program.
+//! - [`gen`]: random machines, events and tapes for tests.
+
+#![forbid(unsafe_code)]
+
+pub mod answer;
+pub mod event;
+pub mod gen;
+pub mod machine;
+pub mod run;
+pub mod step;
+pub mod tape;
+
+pub use event::Event;
+pub use machine::{valid, Entry, LineSet, Machine, Registers, State, Thread};
+pub use run::{program, run};
+pub use step::{step, step_trusted};
+pub use tape::{read, write};
+
+#[cfg(test)]
+mod tests;

@@ -1,0 +1,69 @@
+//! "The tape": the run and the program.
+
+use std::fmt::Write;
+
+use crate::machine::{valid, Machine, MAX_MEMORY};
+use crate::step::step_trusted;
+use crate::{answer, tape};
+
+/// The longest input that the program runs, in bytes.
+pub const LONGEST: usize = 65_536;
+
+/// Runs a tape: reads and does one record at a time. Gives the answer that
+/// stopped it, 0 at the end, and how many records were done; the machine is
+/// the one after exactly those.
+pub fn run(m: &mut Machine, mem: &mut [u64], tape: &[u8]) -> (u8, usize) {
+    watched(m, mem, tape, |_, _| {})
+}
+
+/// The run, telling the answer of each record that is read.
+#[inline]
+fn watched(
+    m: &mut Machine,
+    mem: &mut [u64],
+    tape: &[u8],
+    mut tell: impl FnMut(usize, u8),
+) -> (u8, usize) {
+    if !m.shape_fits(mem.len()) {
+        return (answer::SHAPE, 0);
+    }
+    if !valid(m, mem.len()) {
+        return (answer::INVALID, 0);
+    }
+    let (records, rest) = tape.as_chunks();
+    if !rest.is_empty() {
+        return (answer::RAGGED, 0);
+    }
+    // Every event keeps the machine valid, so each step is trusted.
+    for (done, record) in records.iter().enumerate() {
+        let number = match tape::decode(record) {
+            Ok((thread, e)) => step_trusted(m, mem, thread, e),
+            Err(number) => number,
+        };
+        tell(done, number);
+        if !answer::is_done(number) {
+            return (number, done);
+        }
+    }
+    (answer::DONE, records.len())
+}
+
+/// What the program writes for these bytes on its standard input.
+pub fn program(tape: &[u8]) -> String {
+    if tape.len() > LONGEST {
+        return "long\n".to_string();
+    }
+    let mut m = Machine::fresh();
+    let mut mem = [0u64; MAX_MEMORY];
+    let mut text = String::new();
+    // Writing to a string does not fail.
+    let (number, done) = watched(&mut m, &mut mem, tape, |index, number| {
+        let _ = writeln!(text, "{index} {number}");
+    });
+    // No record gives 6 here: the run has cut the tape into whole ones.
+    if number == answer::RAGGED {
+        let _ = writeln!(text, "- {number}");
+    }
+    let _ = writeln!(text, "end {done}");
+    text
+}

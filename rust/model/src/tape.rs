@@ -1,0 +1,155 @@
+//! "The tape": reading and writing one record.
+
+use crate::{answer, Event};
+
+/// Bytes in a record.
+pub const RECORD: usize = 16;
+/// A record's first byte.
+pub const MARK: u8 = 0xE3;
+
+/// For each kind, the bits of a record that must be 0, the record taken as a
+/// number with its first byte the highest.
+static MUST_BE_ZERO: [u128; 18] = {
+    /// Where a byte of the record may have these bits.
+    const fn at(byte: u32, bits: u128) -> u128 {
+        bits << (8 * (15 - byte))
+    }
+    const X: u128 = at(3, 0xFF);
+    const RA: u128 = at(4, 0xFF);
+    const RB: u128 = at(5, 0xFF);
+    const ONE_FLAG: u128 = at(6, 1);
+    const TWO_FLAGS: u128 = at(6, 3);
+    const INDEX: u128 = at(11, 0xFFFF_FFFF);
+    const SI: u128 = at(13, 0xFFFF);
+    let used = [
+        0,           // no kind 0
+        ONE_FLAG,    // tbegin. R
+        ONE_FLAG,    // tend. A
+        RA,          // tabort.
+        X | RA | RB, // tabortwc. TO in X
+        X | RA | RB, // tabortdc. TO in X
+        ONE_FLAG,    // tsr. L
+        X,           // tcheck BF in X
+        RA,          // treclaim.
+        0,           // trechkpt.
+        X | RA,      // mtspr SPR in X
+        X | RA,      // mfspr SPR in X, RT in RA
+        X | INDEX,   // ld RT in X
+        RA | INDEX,  // std
+        X | RA | SI, // addi RT in X
+        0,           // disallowed
+        0,           // interrupt
+        TWO_FLAGS,   // host
+    ];
+    // First byte, kind and thread are read by themselves.
+    let head = at(2, 0xFF_FFFF);
+    let mut table = [0; 18];
+    let mut kind = 0;
+    while kind < 18 {
+        table[kind] = !(head | used[kind]);
+        kind += 1;
+    }
+    table
+};
+
+/// Reads one record: the thread and the event, or 6, 7, 8 or 9.
+#[inline]
+pub fn read(record: &[u8]) -> Result<(u8, Event), u8> {
+    match record.try_into() {
+        Ok(record) => decode(record),
+        Err(_) => Err(answer::RAGGED),
+    }
+}
+
+/// Reads a record of the right length.
+#[inline]
+pub(crate) fn decode(record: &[u8; RECORD]) -> Result<(u8, Event), u8> {
+    let &[mark, kind, thread, x, ra, rb, flags, _, i0, i1, i2, i3, s0, s1, _, _] = record;
+    if mark != MARK {
+        return Err(answer::MARK);
+    }
+    if !matches!(kind, 1..=17) {
+        return Err(answer::KIND);
+    }
+    if u128::from_be_bytes(*record) & MUST_BE_ZERO[usize::from(kind)] != 0 {
+        return Err(answer::FIELD);
+    }
+    let one = flags & 1 != 0;
+    let two = flags & 2 != 0;
+    let index = u32::from_be_bytes([i0, i1, i2, i3]);
+    let si = u16::from_be_bytes([s0, s1]);
+    let event = match kind {
+        1 => Event::Tbegin { r: one },
+        2 => Event::Tend { a: one },
+        3 => Event::Tabort { ra },
+        4 => Event::Tabortwc { to: x, ra, rb },
+        5 => Event::Tabortdc { to: x, ra, rb },
+        6 => Event::Tsr { l: one },
+        7 => Event::Tcheck { bf: x },
+        8 => Event::Treclaim { ra },
+        9 => Event::Trechkpt,
+        10 => Event::Mtspr { spr: x, ra },
+        11 => Event::Mfspr { rt: ra, spr: x },
+        12 => Event::Ld { rt: x, index },
+        13 => Event::Std { ra, index },
+        14 => Event::Addi { rt: x, ra, si },
+        15 => Event::Disallowed,
+        16 => Event::Interrupt,
+        17 => Event::Host { pr: one, tm: two },
+        _ => return Err(answer::KIND),
+    };
+    Ok((thread, event))
+}
+
+/// Writes one record into the first 16 bytes of the buffer and gives 0; a
+/// shorter buffer is left as it is and 10 given.
+pub fn write(thread: u8, e: Event, buf: &mut [u8]) -> u8 {
+    match buf.first_chunk_mut() {
+        Some(record) => {
+            *record = encode(thread, e);
+            answer::DONE
+        }
+        None => answer::BUFFER,
+    }
+}
+
+/// The record of an event.
+pub fn encode(thread: u8, e: Event) -> [u8; RECORD] {
+    let (mut x, mut ra, mut rb, mut flags, mut index, mut si) = (0, 0, 0, 0, 0u32, 0u16);
+    match e {
+        Event::Tbegin { r: flag } | Event::Tend { a: flag } | Event::Tsr { l: flag } => {
+            flags = u8::from(flag);
+        }
+        Event::Tabort { ra: a } | Event::Treclaim { ra: a } => ra = a,
+        Event::Tabortwc { to, ra: a, rb: b } | Event::Tabortdc { to, ra: a, rb: b } => {
+            (x, ra, rb) = (to, a, b);
+        }
+        Event::Tcheck { bf } => x = bf,
+        Event::Mtspr { spr, ra: r } | Event::Mfspr { spr, rt: r } => (x, ra) = (spr, r),
+        Event::Ld { rt, index: i } => (x, index) = (rt, i),
+        Event::Std { ra: a, index: i } => (ra, index) = (a, i),
+        Event::Addi { rt, ra: a, si: s } => (x, ra, si) = (rt, a, s),
+        Event::Host { pr, tm } => flags = u8::from(pr) | u8::from(tm) << 1,
+        Event::Trechkpt | Event::Disallowed | Event::Interrupt => {}
+    }
+    let [i0, i1, i2, i3] = index.to_be_bytes();
+    let [s0, s1] = si.to_be_bytes();
+    [
+        MARK,
+        e.kind(),
+        thread,
+        x,
+        ra,
+        rb,
+        flags,
+        0,
+        i0,
+        i1,
+        i2,
+        i3,
+        s0,
+        s1,
+        0,
+        0,
+    ]
+}

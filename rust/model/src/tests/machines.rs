@@ -1,0 +1,228 @@
+//! "The machine": what is valid and what is not.
+
+use std::collections::{BTreeMap, BTreeSet};
+
+use super::*;
+use crate::gen::{self, Flaw};
+use crate::machine::{texasr, Entry, LineSet};
+
+/// The definition of a valid machine clause by clause, without haste: a list
+/// of the clauses that do not hold.
+fn faults(m: &Machine, len: usize) -> Vec<&'static str> {
+    let mut faults = Vec::new();
+    let mut clause = |holds: bool, name: &'static str| {
+        if !holds && !faults.contains(&name) {
+            faults.push(name);
+        }
+    };
+    clause(
+        (16..=4096).contains(&len) && len.is_multiple_of(16),
+        "memory length",
+    );
+    clause((1..=4).contains(&m.count), "thread count");
+    let zero = Thread::ZERO;
+    for (n, t) in m.threads.iter().enumerate() {
+        if n >= m.count {
+            clause(*t == zero, "records past the count");
+            continue;
+        }
+        clause(t.count <= 64, "log count");
+        let used: Vec<Entry> = t.log.iter().copied().take(t.count).collect();
+        let unused: Vec<Entry> = t.log.iter().copied().skip(t.count).collect();
+        clause(
+            unused.iter().all(|e| e.index == 0 && e.value == 0),
+            "unused places",
+        );
+        clause(t.nia & 3 == 0, "nia");
+        clause(t.tfhar & 3 == 0, "tfhar");
+        clause(t.cr0 < 16, "cr0");
+        clause(t.live.cr.iter().all(|&c| c < 16), "live cr");
+        clause(t.checkpoint.cr.iter().all(|&c| c < 16), "checkpoint cr");
+        let reads: BTreeSet<usize> = (0..256).filter(|&l| t.reads.contains(l)).collect();
+        let writes: BTreeSet<usize> = (0..256).filter(|&l| t.writes.contains(l)).collect();
+        let empty = reads.is_empty() && writes.is_empty() && t.count == 0;
+        let fs = t.texasr >> 27 & 1 == 1;
+        let tl = t.texasr & 0xFFF;
+        let live = t.state == State::T || t.state == State::S && !t.doomed;
+        let doomed_s = t.state == State::S && t.doomed;
+        if t.state == State::N || doomed_s {
+            clause(empty, "empty sets and log");
+        }
+        if t.state == State::N || t.state == State::T {
+            clause(!t.doomed, "doomed");
+        }
+        if live {
+            clause(!fs, "FS in a live transaction");
+            clause((1..=15).contains(&tl), "level");
+            clause(reads.union(&writes).count() <= 32, "footprint");
+        }
+        if doomed_s {
+            clause(fs, "FS in doomed S");
+        }
+        clause(
+            used.iter().all(|e| (e.index as usize) < len),
+            "indices in memory",
+        );
+        clause(
+            reads.iter().chain(&writes).all(|l| l * 16 < len),
+            "lines in memory",
+        );
+        let distinct: BTreeMap<u32, u64> = used.iter().map(|e| (e.index, e.value)).collect();
+        clause(distinct.len() == used.len(), "distinct indices");
+        let logged: BTreeSet<usize> = used.iter().map(|e| e.index as usize / 16).collect();
+        clause(logged == writes, "write set is the log's lines");
+        for (o, other) in m.threads.iter().enumerate() {
+            let apart = (0..256).all(|l| {
+                !t.writes.contains(l) || !other.writes.contains(l) && !other.reads.contains(l)
+            });
+            clause(o == n || o >= m.count || apart, "lines of another thread");
+        }
+    }
+    faults
+}
+
+#[test]
+fn fresh() {
+    let m = Machine::fresh();
+    assert!(valid(&m, 4096));
+    assert_eq!(m.count, 4);
+    for t in &m.threads {
+        let zero = Thread {
+            pr: true,
+            tm: true,
+            ..Thread::ZERO
+        };
+        assert_eq!(*t, zero);
+    }
+    for len in (0..9000).chain([usize::MAX, usize::MAX - 15]) {
+        let fits = (16..=4096).contains(&len) && len % 16 == 0;
+        assert_eq!(valid(&m, len), fits);
+    }
+}
+
+#[test]
+fn generated_machines_are_valid() {
+    seeds(5000, |rng| {
+        let (m, mem) = gen::valid_machine(rng);
+        assert_eq!(faults(&m, mem.len()), [""; 0]);
+        assert!(valid(&m, mem.len()));
+    });
+}
+
+#[test]
+fn each_flaw_is_found() {
+    for flaw in Flaw::ALL {
+        let mut alone = 0;
+        seeds(300, |rng| {
+            let (m, mem) = gen::flawed_machine(rng, flaw);
+            assert_ne!(faults(&m, mem.len()), [""; 0], "{flaw:?}");
+            assert!(!valid(&m, mem.len()), "{flaw:?}");
+            let expected = if flaw.is_shape() { 1 } else { 2 };
+            let (thread, e) = gen::event(rng, &m, mem.len());
+            let before = Bench { m, mem };
+            let mut b = before.clone();
+            assert_eq!(step(&mut b.m, &mut b.mem, thread, e), expected);
+            assert_eq!(b, before);
+        });
+        // Most of these break one clause alone.
+        for seed in 0..300 {
+            let (m, mem) = gen::flawed_machine(&mut Rng::new(seed), flaw);
+            alone += usize::from(faults(&m, mem.len()).len() == 1);
+        }
+        // An index outside memory has its line there too, and a log with no
+        // live transaction has no write set to match.
+        let never = matches!(flaw, Flaw::IndexOutside | Flaw::LogNotLive);
+        assert!(never || alone > 100, "{flaw:?}: {alone}");
+    }
+}
+
+#[test]
+fn shaken_machines_are_judged_by_the_clauses() {
+    let (mut good, mut bad) = (0, 0);
+    for seed in 0..20_000 {
+        let _printed = Seed(seed);
+        let rng = &mut Rng::new(seed);
+        let (m, mem) = gen::shaken_machine(rng);
+        let expected = faults(&m, mem.len()).is_empty();
+        assert_eq!(valid(&m, mem.len()), expected);
+        if expected {
+            good += 1;
+        } else {
+            bad += 1;
+        }
+        // And with another length.
+        let len = gen::length(rng);
+        assert_eq!(valid(&m, len), faults(&m, len).is_empty());
+    }
+    assert!(good > 1000 && bad > 1000, "{good} {bad}");
+}
+
+#[test]
+fn edges() {
+    // T with TM = 0 is valid, though no event leads there.
+    let mut b = Bench::fresh();
+    b.done(TBEGIN);
+    b.m.threads[0].tm = false;
+    assert!(valid(&b.m, 4096));
+    // In N nothing is asked of TEXASR, TFIAR and the checkpoint's registers.
+    let mut m = Machine::fresh();
+    m.threads[1].texasr = u64::MAX;
+    m.threads[1].tfiar = u64::MAX;
+    m.threads[1].checkpoint.gpr = [u64::MAX; 32];
+    m.threads[1].live.gpr = [u64::MAX; 32];
+    assert!(valid(&m, 4096));
+    m.threads[1].checkpoint.cr[6] = 16;
+    assert!(!valid(&m, 4096));
+    // PR and TM of a record past the count are zero too.
+    let mut m = Machine::fresh();
+    m.count = 3;
+    assert!(!valid(&m, 4096));
+    m.threads[3] = Thread::ZERO;
+    assert!(valid(&m, 4096));
+    m.threads[3].tm = true;
+    assert!(!valid(&m, 4096));
+    // A footprint of 32 lines, some in both sets.
+    let mut b = Bench::fresh();
+    b.done(TBEGIN);
+    for line in 0..32 {
+        b.done(ld(0, line * 16)).done(std(0, line * 16));
+    }
+    assert_eq!(b.thread(0).footprint(), 32);
+    // Two threads may read the same line.
+    let mut b = Bench::fresh();
+    b.done(TBEGIN).done_by(1, TBEGIN);
+    b.done(ld(1, 0)).done_by(1, ld(1, 0));
+    assert!(b.thread(0).reads.contains(0) && b.thread(1).reads.contains(0));
+    // TL counts by its twelve bits.
+    for (level, fits) in [
+        (0, false),
+        (1, true),
+        (15, true),
+        (16, false),
+        (0x801, false),
+    ] {
+        let mut b = Bench::fresh();
+        b.done(TBEGIN);
+        b.m.threads[0].texasr = level;
+        assert_eq!(valid(&b.m, 4096), fits);
+        b.m.threads[0].texasr = level | 0xFFFF_FFFF_F7FF_F000;
+        assert_eq!(valid(&b.m, 4096), fits);
+        b.m.threads[0].texasr |= texasr::FS;
+        assert!(!valid(&b.m, 4096));
+    }
+}
+
+#[test]
+fn line_sets() {
+    let mut set = LineSet::EMPTY;
+    for line in [0, 1, 63, 64, 127, 128, 191, 192, 255] {
+        assert!(!set.contains(line));
+        set.insert(line);
+        assert!(set.contains(line));
+    }
+    assert_eq!(set.len(), 9);
+    assert_eq!(set.0, [1 << 63 | 3, 1 << 63 | 1, 1 << 63 | 1, 1 << 63 | 1]);
+    assert_eq!(set.union(&LineSet([4, 0, 0, 1])).len(), 10);
+    assert!(set.meets(&LineSet([0, 0, 1, 0])));
+    assert!(!set.meets(&LineSet([4, 2, 2, 2])));
+}

@@ -1,0 +1,121 @@
+//! Tests. What they share is here.
+
+mod events;
+mod literal;
+mod machines;
+mod properties;
+mod refusals;
+mod slips;
+mod tapes;
+mod values;
+
+use crate::gen::Rng;
+use crate::{answer, step, valid, Event, Machine, State, Thread};
+
+/// Prints the seed of a property test that fails.
+struct Seed(u64);
+
+impl Drop for Seed {
+    fn drop(&mut self) {
+        if std::thread::panicking() {
+            eprintln!("failed with seed {}", self.0);
+        }
+    }
+}
+
+/// Runs a property over seeds 0, 1, 2, ...
+fn seeds(n: u64, property: impl Fn(&mut Rng)) {
+    for seed in 0..n {
+        let printed = Seed(seed);
+        property(&mut Rng::new(seed));
+        drop(printed);
+    }
+}
+
+/// A machine and its memory, stepped by hand.
+#[derive(Clone, PartialEq, Debug)]
+struct Bench {
+    m: Machine,
+    mem: Vec<u64>,
+}
+
+impl Bench {
+    fn fresh() -> Bench {
+        Bench {
+            m: Machine::fresh(),
+            mem: vec![0; 4096],
+        }
+    }
+
+    /// A fresh machine whose thread 0 is privileged.
+    fn privileged() -> Bench {
+        let mut b = Bench::fresh();
+        b.m.threads[0].pr = false;
+        b
+    }
+
+    fn thread(&self, n: usize) -> &Thread {
+        &self.m.threads[n]
+    }
+
+    fn step(&mut self, thread: u8, e: Event) -> u8 {
+        let number = step(&mut self.m, &mut self.mem, thread, e);
+        assert!(valid(&self.m, self.mem.len()), "not valid after {e:?}");
+        number
+    }
+
+    /// Does an event of thread 0 that is to give 0.
+    fn done(&mut self, e: Event) -> &mut Bench {
+        self.done_by(0, e)
+    }
+
+    /// Does an event that is to give 0.
+    fn done_by(&mut self, thread: u8, e: Event) -> &mut Bench {
+        assert_eq!(self.step(thread, e), answer::DONE, "{e:?}");
+        self
+    }
+
+    /// Does an event of thread 0 and checks its answer.
+    fn gives(&mut self, e: Event, number: u8) -> &mut Bench {
+        assert_eq!(self.step(0, e), number, "{e:?}");
+        self
+    }
+
+    /// An event of thread 0 that is to be refused with this number, on the
+    /// machine as it is, with nothing changed.
+    fn refused(&mut self, e: Event, number: u8) -> &mut Bench {
+        let before = self.clone();
+        assert_eq!(
+            step(&mut self.m, &mut self.mem, 0, e),
+            number,
+            "{e:?} refused"
+        );
+        assert_eq!(*self, before, "{e:?} changed something");
+        self
+    }
+
+    /// Thread 0's state is to be this.
+    fn is(&mut self, state: State) -> &mut Bench {
+        assert_eq!(self.thread(0).state, state);
+        self
+    }
+}
+
+const TBEGIN: Event = Event::Tbegin { r: false };
+const TBEGIN_ROT: Event = Event::Tbegin { r: true };
+const TEND: Event = Event::Tend { a: false };
+const TABORT: Event = Event::Tabort { ra: 0 };
+const TSUSPEND: Event = Event::Tsr { l: false };
+const TRESUME: Event = Event::Tsr { l: true };
+
+fn ld(rt: u8, index: u32) -> Event {
+    Event::Ld { rt, index }
+}
+
+fn std(ra: u8, index: u32) -> Event {
+    Event::Std { ra, index }
+}
+
+fn addi(rt: u8, ra: u8, si: u16) -> Event {
+    Event::Addi { rt, ra, si }
+}

@@ -1,0 +1,137 @@
+//! "Bench values": K1 to K10.
+
+use super::*;
+
+#[test]
+fn k1_tabort() {
+    let mut b = Bench::fresh();
+    b.m.threads[0].nia = 0x1000;
+    b.done(TBEGIN).done(addi(5, 0, 1)).gives(TABORT, 20);
+    let t = b.thread(0);
+    assert_eq!(t.texasr, 0x0000_0001_1C00_0001);
+    assert_eq!(t.tfiar, 0x1009);
+    assert_eq!(t.tfhar, 0x1004);
+    assert_eq!(t.cr0, 10);
+    assert_eq!(t.nia, 0x1004);
+    assert_eq!(t.live.gpr[5], 0);
+}
+
+#[test]
+fn k2_tabort_with_a_code() {
+    let mut b = Bench::fresh();
+    b.m.threads[0].nia = 0x1000;
+    b.m.threads[0].live.gpr[3] = 0x1A5;
+    b.done(TBEGIN)
+        .done(addi(5, 0, 1))
+        .gives(Event::Tabort { ra: 3 }, 20);
+    let t = b.thread(0);
+    assert_eq!(t.texasr, 0xA500_0001_1C00_0001);
+    assert_eq!(t.tfiar, 0x1009);
+    assert_eq!(t.tfhar, 0x1004);
+    assert_eq!(t.cr0, 10);
+}
+
+#[test]
+fn k3_disallowed() {
+    let mut b = Bench::privileged();
+    b.done(TBEGIN).done(TBEGIN).gives(Event::Disallowed, 20);
+    assert_eq!(b.thread(0).texasr, 0x0080_0000_0C00_0002);
+    assert_eq!(b.thread(0).tfiar, 8);
+}
+
+#[test]
+fn k4_store_of_another_thread() {
+    for (e, index) in [(ld(1, 40), 47), (std(1, 40), 40)] {
+        let mut b = Bench::fresh();
+        b.done(TBEGIN).done(e).done_by(1, std(2, index));
+        let t = b.thread(0);
+        assert_eq!(t.texasr, 0x0008_0000_1800_0001);
+        assert_eq!(t.tfiar, 8 | 1);
+        assert_eq!((t.state, t.cr0, t.nia), (State::N, 10, 4));
+    }
+}
+
+#[test]
+fn k5_own_store_in_s() {
+    for e in [ld(1, 40), std(1, 40)] {
+        let mut b = Bench::fresh();
+        b.m.threads[0].live.gpr[2] = 77;
+        b.done(TBEGIN).done(e).done(TSUSPEND).gives(std(2, 41), 21);
+        let t = b.thread(0);
+        assert_eq!(t.texasr, 0x0010_0000_9C00_0001);
+        assert_eq!(t.tfiar, 12 | 1);
+        assert_eq!((t.state, t.doomed, t.nia), (State::S, true, 16));
+        assert_eq!(b.mem[41], 77);
+    }
+}
+
+#[test]
+fn k6_the_33rd_line() {
+    for e in [ld(1, 32 * 16), std(1, 32 * 16)] {
+        let mut b = Bench::privileged();
+        b.done(TBEGIN);
+        for line in 0..32 {
+            b.done(if line % 2 == 0 {
+                ld(1, line * 16)
+            } else {
+                std(1, line * 16 + 3)
+            });
+        }
+        assert_eq!(b.thread(0).footprint(), 32);
+        b.gives(e, 20);
+        assert_eq!(b.thread(0).texasr, 0x0020_0000_0C00_0001);
+    }
+}
+
+#[test]
+fn k7_nesting() {
+    let mut b = Bench::fresh();
+    for level in 1..=15 {
+        b.done(TBEGIN);
+        assert_eq!(b.thread(0).texasr, level);
+    }
+    b.gives(TBEGIN, 20);
+    assert_eq!(b.thread(0).texasr, 0x0040_0000_1C00_000F);
+}
+
+#[test]
+fn k8_rot() {
+    let mut b = Bench::fresh();
+    b.done(TBEGIN_ROT);
+    assert_eq!(b.thread(0).texasr, 0x0200_0001);
+}
+
+#[test]
+fn k9_last_address() {
+    let mut b = Bench::fresh();
+    b.m.threads[0].nia = u64::MAX - 3;
+    b.done(TBEGIN);
+    assert_eq!(b.thread(0).tfhar, 0);
+    assert_eq!(b.thread(0).nia, 0);
+}
+
+#[test]
+fn k10_word_and_doubleword() {
+    for (e, number) in [
+        (
+            Event::Tabortwc {
+                to: 16,
+                ra: 3,
+                rb: 0,
+            },
+            20,
+        ),
+        (
+            Event::Tabortdc {
+                to: 16,
+                ra: 3,
+                rb: 0,
+            },
+            0,
+        ),
+    ] {
+        let mut b = Bench::fresh();
+        b.m.threads[0].live.gpr[3] = 0xFFFF_FFFF;
+        b.done(TBEGIN).gives(e, number);
+    }
+}
