@@ -275,7 +275,7 @@ no-number : (b : Bool) (n m : ℕ) → cond b (suc n) m ≡ 0 → (b ≡ false) 
 no-number true n m p = absurd (let z : suc n ≡ 0 = p in omega arith)
 no-number false n m p = (refl, p)
 
-not-bad : (k : Control) (n : ℕ) → refused-there k n ≡ 0 → bad-thing (k .state) k n ≡ false
+pub not-bad : (k : Control) (n : ℕ) → refused-there k n ≡ 0 → bad-thing (k .state) k n ≡ false
 unfolding refused-there
 not-bad k n p =
     no-number (bad-thing (k .state) k n) 12 0

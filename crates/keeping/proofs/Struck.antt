@@ -25,7 +25,7 @@ use Rattle.keeping.proofs.Fails.{live-unfailed-t, live-unfailed-s, held
 use Rattle.keeping.proofs.Sets.{cond-keeps, neither, Sheds, sheds-writes, sheds-touches, recording-sheds, handling-sheds}
 
 -- a record past the count is in N
-zero-in-n : (t : Thread) → zero-thread t ≡ true → zero-state (t .control .state) ≡ true
+pub zero-in-n : (t : Thread) → zero-thread t ≡ true → zero-state (t .control .state) ≡ true
 unfolding zero-thread zero-control
 zero-in-n t h = (simp and-eq-true-iff at h) .0 .0 .1 .1
 

@@ -1,0 +1,11 @@
+pub mod Own
+pub mod Struck
+pub mod Step
+pub mod Secrecy
+pub mod Erase
+pub mod Corollaries
+pub mod Examples
+pub mod Needed
+pub mod Leaks
+pub mod Useless
+pub mod Runs

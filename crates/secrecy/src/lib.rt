@@ -1,0 +1,1 @@
+// The third demand: a transaction's data can't be seen before it commits. Theorems, no code.
