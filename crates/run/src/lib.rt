@@ -31,7 +31,7 @@ fn goes_on(answer: u8) -> bool
 }
 
 // One record read and done behind k others: a record that stops the run is not counted.
-fn one(m: Machine, mem: &mut [u64], bytes: &[u8], k: usize) -> Ended
+pub fn one(m: Machine, mem: &mut [u64], bytes: &[u8], k: usize) -> Ended
     requires { ⌜ valid m (length (now mem)) ≡ true ⌝ }
     requires { ⌜ k < 2 ^ 63 ⌝ }
     ensures { λ r. ⌜ r ≡ one (read (now (bytes .entry))) m (now (mem .entry)) k .ended ⌝ }

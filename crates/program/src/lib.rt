@@ -1,0 +1,16 @@
+// The program: standard input is a tape, and the text goes to standard output (document 01, "The tape").
+use libc::STDIN_FILENO;
+use libc::STDOUT_FILENO;
+use text::LONGEST;
+
+// One byte more than the longest input, so that a longer one is seen to be too long.
+const BUFFER: usize = 65537;
+
+// No contract can say what is read or written: all the work is in text::text.
+pub fn program() {
+    let mut input = [0u8; BUFFER];
+    let mut out = [0u8; LONGEST];
+    let n = io::read_full(STDIN_FILENO, &mut input);
+    let r = text::text(&input[..n], &mut out);
+    io::write_all(STDOUT_FILENO, &out[..r]);
+}

@@ -1,0 +1,4 @@
+// The program on tapes/edition_two.tape.
+fn main() {
+    program::program();
+}

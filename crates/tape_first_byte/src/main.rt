@@ -1,0 +1,4 @@
+// The program on tapes/first_byte.tape.
+fn main() {
+    program::program();
+}

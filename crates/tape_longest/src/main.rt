@@ -1,0 +1,4 @@
+// The program on tapes/longest.tape.
+fn main() {
+    program::program();
+}

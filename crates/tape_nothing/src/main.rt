@@ -1,0 +1,4 @@
+// The program on tapes/nothing.tape.
+fn main() {
+    program::program();
+}

@@ -1,0 +1,4 @@
+// The program on tapes/pair.tape.
+fn main() {
+    program::program();
+}

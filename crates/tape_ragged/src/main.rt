@@ -1,0 +1,4 @@
+// The program on tapes/ragged.tape.
+fn main() {
+    program::program();
+}

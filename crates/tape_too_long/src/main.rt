@@ -1,0 +1,4 @@
+// The program on tapes/too_long.tape.
+fn main() {
+    program::program();
+}

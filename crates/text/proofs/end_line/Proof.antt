@@ -1,0 +1,47 @@
+-- `text::end_line` meets its contract: the word, the count and the line's end.
+use native.Mathlib.Omega.{arith}
+use Rattle.text.specs.Text.{end-line}
+use Rattle.text.proofs.Laws.{joined}
+use borrow.Author.Needs.{needs}
+use Rattle.text.proofs.end_line.Statement.{statement}
+use Rattle.text.proofs.end_line.Tie as tie
+
+slice-aggregate-append : tie.Need-slice-aggregate-append
+slice-aggregate-append c = search needs
+
+append-requires : tie.Need-append-requires
+append-requires c κs = search needs
+
+decimal-requires : tie.Need-decimal-requires
+decimal-requires c κs = search needs
+
+slice-aggregate-append-2 : tie.Need-slice-aggregate-append-2
+slice-aggregate-append-2 c = search needs
+
+append-requires-2 : tie.Need-append-requires-2
+append-requires-2 c κs = search needs
+
+same-length : tie.Need-same-length
+same-length c = search needs
+
+returns : tie.Need-returns
+unfolding end-line
+returns c =
+    let d = c .before .before in
+    let n = d .before .before .before .before .before in
+    let w = n .before .before .before .before in (
+      omega (arith, d .append2 .ensures .0, n .decimal .ensures .0, w .append .ensures .0),
+      joined (joined (w .append .ensures .1) (n .decimal .ensures .1)) (d .append2 .ensures .1),
+    )
+
+pub end-line-spec : {M : Type 1} → statement M
+end-line-spec =
+    tie.close
+    (tie.spec
+    slice-aggregate-append
+    append-requires
+    decimal-requires
+    slice-aggregate-append-2
+    append-requires-2
+    same-length
+    returns)

@@ -1,0 +1,52 @@
+-- `text::line` meets its contract: the index, a space, the answer and the line's end.
+use native.Mathlib.Omega.{arith}
+use Rattle.text.specs.Text.{line}
+use Rattle.text.proofs.Laws.{joined}
+use borrow.Author.Needs.{needs}
+use Rattle.text.proofs.line.Statement.{statement}
+use Rattle.text.proofs.line.Tie as tie
+
+decimal-requires : tie.Need-decimal-requires
+decimal-requires c κs = search needs
+
+slice-aggregate-append : tie.Need-slice-aggregate-append
+slice-aggregate-append c = search needs
+
+append-requires : tie.Need-append-requires
+append-requires c κs = search needs
+
+decimal-requires-2 : tie.Need-decimal-requires-2
+decimal-requires-2 c κs = search needs
+
+slice-aggregate-append-2 : tie.Need-slice-aggregate-append-2
+slice-aggregate-append-2 c = search needs
+
+append-requires-2 : tie.Need-append-requires-2
+append-requires-2 c κs = search needs
+
+same-length : tie.Need-same-length
+same-length c = search needs
+
+returns : tie.Need-returns
+unfolding line
+returns c =
+    let d = c .before .before in
+    let n = d .before .before .before .before .before in
+    let s = n .before .before .before .before in
+    let i = s .before .before .before .before .before in (
+      omega (arith, d .append2 .ensures .0, n .decimal2 .ensures .0, s .append .ensures .0, i .decimal .ensures .0),
+      joined (joined (joined (i .decimal .ensures .1) (s .append .ensures .1)) (n .decimal2 .ensures .1)) (d .append2 .ensures .1),
+    )
+
+pub line-spec : {M : Type 1} → statement M
+line-spec =
+    tie.close
+    (tie.spec
+    decimal-requires
+    slice-aggregate-append
+    append-requires
+    decimal-requires-2
+    slice-aggregate-append-2
+    append-requires-2
+    same-length
+    returns)

@@ -1,0 +1,26 @@
+-- How the text and the run agree: what the theorems of proofs/Agrees.antt say.
+use mathlib.Core.Path.{_≡_}
+use mathlib.Core.Logic.{_⊎_}
+use mathlib.Core.List.{List, _++_}
+use Prim.Native.Nat.{ℕ, _+_, _/_}
+use lib.ListN.{length, getD}
+use Rattle.machine.specs.Machine.{fresh, fresh-memory}
+use Rattle.tape.specs.Tape.{record-size}
+use Rattle.run.specs.Run.{run}
+use Rattle.run.specs.declared.Ended.{Ended}
+use Rattle.text.specs.Text.{end-line, answers, text}
+
+-- a run on the fresh machine
+abbrev pub fresh-run : List ℕ → Ended
+fresh-run input = run fresh fresh-memory input .ended
+
+-- an answer for each record done and the run's is 0, or one answer more, which is the run's
+abbrev pub Answered : ℕ → ℕ → List ℕ → Type 0
+Answered answer done given = ((length given ≡ done) × (answer ≡ 0)) ⊎ ((length given ≡ done + 1) × (getD given done 0 ≡ answer))
+
+abbrev pub Agrees : List ℕ → Type 0
+Agrees input = Answered (fresh-run input .answer) (fresh-run input .count) (answers (length input / record-size) input 0 fresh fresh-memory)
+
+-- the text's last line has the run's count
+abbrev pub Counts : List ℕ → Type 0
+Counts input = (before : List ℕ) × (text input ≡ before ++ end-line (fresh-run input .count))
