@@ -1,0 +1,220 @@
+//! The stored expectations of the proved programs, held to this model: every line of the vectors and the text of every tape.
+//! Two readings of document 01 made apart so agree on them.
+
+use model::{program, read, step, Machine, Registers, State, Thread};
+use std::fmt::Write;
+use std::fs;
+use std::path::PathBuf;
+
+const MEMORY: usize = 4112;
+
+fn crates() -> PathBuf {
+    PathBuf::from(env!("CARGO_MANIFEST_DIR")).join("../../crates")
+}
+
+fn bytes(item: &str) -> [u8; 16] {
+    let mut b = [0; 16];
+    for (i, byte) in b.iter_mut().enumerate() {
+        *byte = u8::from_str_radix(&item[2 * i..2 * i + 2], 16).expect("hexadecimal digits");
+    }
+    b
+}
+
+fn put_cr(r: &mut Registers, field: usize, v: u64) {
+    if (1..=7).contains(&field) {
+        r.cr[field - 1] = v as u8;
+    }
+}
+
+/// The pokes of a thread, numbered as in the vectors' library.
+fn poke_thread(t: &mut Thread, field: u8, i: usize, index: u64, v: u64) {
+    match field {
+        3 if i < 32 => t.live.gpr[i] = v,
+        4 if i < 32 => t.checkpoint.gpr[i] = v,
+        5 if i == 0 => t.cr0 = v as u8,
+        5 => put_cr(&mut t.live, i, v),
+        6 => put_cr(&mut t.checkpoint, i, v),
+        7 => t.nia = v,
+        8 => t.pr = v == 1,
+        9 => t.tm = v == 1,
+        10 => {
+            t.state = match v {
+                0 => State::N,
+                1 => State::T,
+                _ => State::S,
+            }
+        }
+        11 => t.doomed = v == 1,
+        12 => t.tfhar = v,
+        13 => t.tfiar = v,
+        14 => t.texasr = v,
+        15 if i < 4 => t.reads.0[i] = v,
+        16 if i < 4 => t.writes.0[i] = v,
+        17 => t.count = v as usize,
+        18 if i < 64 => t.log[i].index = v as u32,
+        19 if i < 64 => t.log[i].value = v,
+        20 => {
+            for k in 0..i.min(64) {
+                t.log[k].index = index.wrapping_add(k as u64) as u32;
+                t.log[k].value = v;
+            }
+            t.count = i;
+        }
+        _ => {}
+    }
+}
+
+fn poke(m: &mut Machine, mem: &mut [u64], lent: &mut usize, b: [u8; 16]) {
+    let index = u64::from(u32::from_be_bytes([b[4], b[5], b[6], b[7]]));
+    let v = u64::from_be_bytes(b[8..].try_into().expect("eight bytes"));
+    match b[1] {
+        0 => m.count = v as usize,
+        1 => *lent = v as usize,
+        2 => {
+            if let Some(word) = mem.get_mut(index as usize) {
+                *word = v;
+            }
+        }
+        field => {
+            if let Some(t) = m.threads.get_mut(usize::from(b[2])) {
+                poke_thread(t, field, usize::from(b[3]), index, v);
+            }
+        }
+    }
+}
+
+fn show(out: &mut String, name: String, v: u64, fresh: u64) {
+    if v != fresh {
+        write!(out, " {name}={v:x}").expect("a string takes all");
+    }
+}
+
+fn show_registers(out: &mut String, w: usize, saved: &str, r: &Registers, cr0: Option<u8>) {
+    for (i, v) in r.gpr.iter().enumerate() {
+        show(out, format!("t{w}.{saved}r{i}"), *v, 0);
+    }
+    if let Some(v) = cr0 {
+        show(out, format!("t{w}.cr0"), u64::from(v), 0);
+    }
+    for (i, v) in r.cr.iter().enumerate() {
+        show(out, format!("t{w}.{saved}cr{}", i + 1), u64::from(*v), 0);
+    }
+}
+
+fn show_thread(out: &mut String, w: usize, t: &Thread) {
+    show_registers(out, w, "", &t.live, Some(t.cr0));
+    show_registers(out, w, "saved_", &t.checkpoint, None);
+    let state = match t.state {
+        State::N => 0,
+        State::T => 1,
+        State::S => 2,
+    };
+    for (name, v, fresh) in [
+        ("nia", t.nia, 0),
+        ("pr", u64::from(t.pr), 1),
+        ("tm", u64::from(t.tm), 1),
+        ("state", state, 0),
+        ("doomed", u64::from(t.doomed), 0),
+        ("tfhar", t.tfhar, 0),
+        ("tfiar", t.tfiar, 0),
+        ("texasr", t.texasr, 0),
+    ] {
+        show(out, format!("t{w}.{name}"), v, fresh);
+    }
+    for i in 0..4 {
+        show(out, format!("t{w}.reads{i}"), t.reads.0[i], 0);
+    }
+    for i in 0..4 {
+        show(out, format!("t{w}.writes{i}"), t.writes.0[i], 0);
+    }
+    show(out, format!("t{w}.used"), t.count as u64, 0);
+    for (i, e) in t.log.iter().enumerate() {
+        show(out, format!("t{w}.index{i}"), u64::from(e.index), 0);
+        show(out, format!("t{w}.value{i}"), e.value, 0);
+    }
+}
+
+/// What this model gives for a line `RULE: ITEM ITEM ..`.
+fn vector(line: &str) -> String {
+    let (rule, items) = line.split_once(':').expect("a rule and a colon");
+    let mut out = format!("{rule}:");
+    let mut m = Machine::fresh();
+    let mut mem = vec![0u64; MEMORY];
+    let mut lent = 64;
+    for item in items.split_whitespace() {
+        let b = bytes(item);
+        if b[0] != 0xE3 {
+            poke(&mut m, &mut mem, &mut lent, b);
+            continue;
+        }
+        let answer = match read(&b) {
+            Ok((thread, event)) => step(&mut m, &mut mem[..lent], thread, event),
+            Err(number) => number,
+        };
+        write!(out, " {answer}").expect("a string takes all");
+    }
+    for (w, t) in m.threads.iter().enumerate() {
+        show_thread(&mut out, w, t);
+    }
+    for (i, v) in mem.iter().enumerate() {
+        show(&mut out, format!("mem[{i}]"), *v, 0);
+    }
+    show(&mut out, "count".to_string(), m.count as u64, 4);
+    out
+}
+
+fn hold_vectors(name: &str) -> usize {
+    let given = fs::read_to_string(crates().join(name).join("stdin")).expect("the vectors");
+    let stored = fs::read_to_string(crates().join(name).join("stdout")).expect("what they show");
+    assert_eq!(
+        given.lines().count(),
+        stored.lines().count(),
+        "{name}: a line for a line"
+    );
+    for (line, expected) in given.lines().zip(stored.lines()) {
+        assert_eq!(vector(line), expected, "{name}");
+    }
+    given.lines().count()
+}
+
+#[test]
+fn vectors_agree() {
+    assert!(hold_vectors("vectors") > 300);
+    assert!(hold_vectors("vectors_more") > 250);
+}
+
+#[test]
+fn tapes_agree() {
+    let mut tapes = 0;
+    for entry in fs::read_dir(crates()).expect("the crates") {
+        let folder = entry.expect("a crate").path();
+        let name = folder
+            .file_name()
+            .and_then(|n| n.to_str())
+            .unwrap_or_default()
+            .to_string();
+        if name != "naszeptan" && !name.starts_with("tape_") {
+            continue;
+        }
+        let given = fs::read(folder.join("stdin")).unwrap_or_default();
+        let stored = fs::read_to_string(folder.join("stdout")).expect("the program's text");
+        assert_eq!(program(&given), stored, "{name}");
+        tapes += 1;
+    }
+    assert_eq!(tapes, 8);
+}
+
+#[test]
+fn tapes_for_the_reader_are_those_of_the_tests() {
+    let tapes = crates().join("../tapes");
+    for (tape, name) in [
+        ("nothing", "tape_nothing"),
+        ("pair", "tape_pair"),
+        ("ragged", "tape_ragged"),
+        ("every_kind", "naszeptan"),
+    ] {
+        let shown = fs::read(tapes.join(format!("{tape}.tape"))).expect("the tape");
+        let tested = fs::read(crates().join(name).join("stdin")).unwrap_or_default();
+        assert_eq!(shown, tested, "{tape}");
+    }
+}
