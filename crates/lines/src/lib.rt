@@ -5,6 +5,7 @@ ghost use Rattle.base.specs.Limits.{lines};
 ghost use Rattle.lines.specs.Lines.{empty, has, with, meets, footprint, joined, shared};
 use base::WORDS;
 
+#[repr(C)]
 pub struct LineSet {
     pub words: [u64; WORDS],
 }

@@ -12,6 +12,7 @@ pub const RECORD_SIZE: usize = 16;
 pub const FIRST_BYTE: u8 = 0xE3;
 
 // What a record holds, whatever its layout. X is SPR, BF or TO, else RT; RA is RT for mfspr; flags are R, A, L or PR + 2 x TM.
+#[repr(C)]
 pub struct Fields {
     pub kind: u8,
     pub thread: u8,

@@ -120,7 +120,7 @@ fn judged(
 }
 
 // The kind chooses the used fields (X, RA, RB, the largest flags, index, SI); all other values are refused by 8.
-fn of_kind(f: Fields, zero: bool) -> Read
+pub fn of_kind(f: Fields, zero: bool) -> Read
     ensures { λ r. ⌜ r ≡ of-kind f zero ⌝ }
 {
     let kind = f.kind;

@@ -36,7 +36,7 @@ fn filled(kind: u8, thread: u8, x: u8, ra: u8, rb: u8, flags: u8, index: u32, si
 }
 
 // The fields of an event.
-fn fields_of(thread: u8, e: Event) -> Fields
+pub fn fields_of(thread: u8, e: Event) -> Fields
     ensures { λ r. ⌜ r ≡ fields-of thread e ⌝ }
 {
     match e {

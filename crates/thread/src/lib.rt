@@ -6,6 +6,7 @@ ghost use Rattle.thread.specs.Thread.{in-state, take-checkpoint, restore
 use transaction::Transaction;
 
 // 32 general registers, and CR fields 1 to 7: cr[0] is field 1. CR0 stands apart, since no checkpoint holds it.
+#[repr(C)]
 pub struct Registers {
     pub gpr: [u64; 32],
     pub cr: [u8; 7],

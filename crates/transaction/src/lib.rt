@@ -11,12 +11,14 @@ use base::PLACES;
 use lines::LineSet;
 
 // A place of the log: a doubleword's index and the value stored to it.
+#[repr(C)]
 pub struct Entry {
     pub index: u32,
     pub value: u64,
 }
 
 // The line sets stand beside the log's entry count; the log's places past the count are zero.
+#[repr(C)]
 pub struct Transaction {
     pub reads: LineSet,
     pub writes: LineSet,

@@ -1,0 +1,29 @@
+-- `host::entries::machine_number` meets its contract.
+use mathlib.Core.Path.{sym, _∙_}
+use Rattle.machine.proofs.Laws.{flag-true, flag-false}
+use Rattle.host.specs.Host.{machine-number}
+use borrow.Author.Needs.{needs}
+use Rattle.host.proofs.entries.machine_number.Statement.{statement}
+use Rattle.host.proofs.entries.machine_number.Tie as tie
+
+sized-requires : tie.Need-sized-requires
+sized-requires c κs = search needs
+
+returns : tie.Need-returns
+unfolding machine-number
+returns c = simp (flag-false (c .before .sized .ensures) (c .if1 .taken))
+
+valid-requires : tie.Need-valid-requires
+valid-requires c κs = search needs
+
+returns-2 : tie.Need-returns-2
+unfolding machine-number
+returns-2 c = simp (flag-true (c .before .before .before .sized .ensures) (c .before .before .if1 .left), sym (c .before .valid .ensures) ∙ c .if2 .taken)
+
+returns-3 : tie.Need-returns-3
+unfolding machine-number
+returns-3 c = simp (flag-true (c .before .before .before .sized .ensures) (c .before .before .if1 .left), sym (c .before .valid .ensures) ∙ c .if2 .left)
+
+pub machine-number-spec : {M : Type 1} → statement M
+machine-number-spec =
+    tie.close (tie.spec sized-requires returns valid-requires returns-2 returns-3)

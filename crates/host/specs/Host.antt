@@ -1,0 +1,96 @@
+-- What a host calls: the tests and the step, the run, the reader and the writer of document 01, on plain numbers.
+use Prim.Native.Nat.{ℕ}
+use mathlib.Core.Bool.{true, cond}
+use mathlib.Core.List.{List}
+use lib.Dec.{eqb}
+use lib.ListN.{length}
+use Rattle.machine.specs.Valid.{sized, valid}
+use Rattle.machine.specs.Step as machine
+use Rattle.machine.specs.declared.Machine.{Machine}
+use Rattle.tape.specs.Fields.{fields, fields-of}
+use Rattle.tape.specs.Tape as tape
+use Rattle.tape.specs.declared.Fields.{Fields}
+use Rattle.tape.specs.declared.Read.{Read}
+use Rattle.tape.specs.declared.Read.the-variants.{Record, Refused}
+use Rattle.run.specs.Run as tape-run
+use Rattle.host.specs.Crossing.{right, machine-of, raw-machine}
+use Rattle.host.specs.declared.RawMachine.{RawMachine}
+use Rattle.host.specs.declared.RawDone.{RawDone}
+use Rattle.host.specs.declared.RawEnded.{RawEnded}
+use Rattle.host.specs.declared.RawRecord.{RawRecord}
+
+-- version four, no change request landed; src/lib.rt has the same number for the code
+abbrev pub version : ℕ
+version = 0x00040000
+
+-- the numbers 1 and 2 of a machine over a memory of len doublewords, or 0
+unfoldable pub machine-number : Machine → ℕ → ℕ
+machine-number m len = cond (sized m len) (cond (valid m len) 0 2) 1
+
+-- the numbers 1 and 2 of any bits: bits that are no machine are 2 where the size is right
+unfoldable pub number : RawMachine → ℕ → ℕ
+number m len = cond (right m) (machine-number (machine-of m) len) (cond (sized (machine-of m) len) 2 1)
+
+-- what a step leaves: its answer with the machine, and memory
+pub record RawOutcome : Type 0 where
+  pub done : RawDone
+  pub memory : List ℕ
+
+abbrev pub outcome : ℕ → RawMachine → List ℕ → RawOutcome
+outcome n m mem = record { done = record { answer = n; machine = m }; memory = mem }
+
+-- refused by n unless 1 or 2 comes first
+abbrev pub first-of : ℕ → ℕ → ℕ
+first-of k n = cond (eqb k 0) n k
+
+abbrev pub crossed : machine.Outcome → RawOutcome
+crossed o = outcome (o .done .answer) (raw-machine (o .done .machine)) (o .memory)
+
+-- the event of fields on a machine: 1 and 2 come before 8 and 9, which come before the rest
+abbrev pub met : Read → RawMachine → List ℕ → RawOutcome
+met (Refused n) m mem = outcome (first-of (number m (length mem)) n) m mem
+met (Record w e) m mem = cond (right m) (crossed (machine.step (machine-of m) mem w e)) (outcome (number m (length mem)) m mem)
+
+-- fields are judged as a record's are
+abbrev pub event-read : Fields → Read
+event-read f = tape.of-kind f true
+
+unfoldable pub step : RawMachine → List ℕ → Fields → RawOutcome
+step m mem f = met (event-read f) m mem
+
+-- what a run leaves: its answer and count with the machine, and memory
+pub record RawResult : Type 0 where
+  pub ended : RawEnded
+  pub memory : List ℕ
+
+abbrev pub result : ℕ → ℕ → RawMachine → List ℕ → RawResult
+result n k m mem = record { ended = record { answer = n; count = k; machine = m }; memory = mem }
+
+abbrev pub crossed-result : tape-run.Result → RawResult
+crossed-result r = result (r .ended .answer) (r .ended .count) (raw-machine (r .ended .machine)) (r .memory)
+
+unfoldable pub run : RawMachine → List ℕ → List ℕ → RawResult
+run m mem bytes = cond (right m) (crossed-result (tape-run.run (machine-of m) mem bytes)) (result (number m (length mem)) 0 m mem)
+
+-- a record's fields with 0, or a number with zeros
+abbrev pub record-of : Read → RawRecord
+record-of (Record w e) = record { answer = 0; event = fields-of w e }
+record-of (Refused n) = record { answer = n; event = fields 0 0 0 0 0 0 0 0 }
+
+unfoldable pub read : List ℕ → RawRecord
+read bytes = record-of (tape.read bytes)
+
+-- fields that are no event are refused by 8 or 9 before the buffer is tested
+abbrev pub write-answer-of : Read → List ℕ → ℕ
+write-answer-of (Record w e) buf = tape.write-answer buf
+write-answer-of (Refused n) buf = n
+
+abbrev pub written : Read → List ℕ → List ℕ
+written (Record w e) buf = tape.write w e buf
+written (Refused n) buf = buf
+
+unfoldable pub write-answer : Fields → List ℕ → ℕ
+write-answer f buf = write-answer-of (event-read f) buf
+
+unfoldable pub write : Fields → List ℕ → List ℕ
+write f buf = written (event-read f) buf

@@ -1,0 +1,155 @@
+// What a host calls. No contract asks anything of the caller but that a pointer and its length are true.
+ghost use mathlib.Core.Path.{_≡_};
+ghost use Rattle.machine.specs.Machine.{fresh};
+ghost use Rattle.host.specs.Crossing.{raw-machine, machine-of};
+ghost use Rattle.host.specs.Host.{version, machine-number, number, first-of, step, run, read, write-answer, write};
+use crate::RawDone;
+use crate::RawEnded;
+use crate::RawMachine;
+use crate::RawRecord;
+use crate::VERSION;
+use crate::crossing;
+use machine::Machine;
+use tape::Fields;
+use tape::Read;
+
+// The version of the rules.
+#[no_mangle]
+pub extern "C" fn naszeptan_version() -> u32
+    ensures { λ r. ⌜ r ≡ version ⌝ }
+{
+    VERSION
+}
+
+#[no_mangle]
+pub extern "C" fn naszeptan_fresh() -> RawMachine
+    ensures { λ r. ⌜ r ≡ raw-machine fresh ⌝ }
+{
+    crossing::raw_machine(machine::fresh())
+}
+
+// The tests 1 and 2 of a machine.
+fn machine_number(m: Machine, len: usize) -> u8
+    ensures { λ r. ⌜ r ≡ machine-number m len ⌝ }
+{
+    if !machine::valid::sized(m, len) {
+        return 1;
+    }
+    if machine::valid::valid(m, len) {
+        return 0;
+    }
+    2
+}
+
+// The tests 1 and 2 of any bits.
+#[no_mangle]
+pub extern "C" fn naszeptan_valid(m: RawMachine, len: usize) -> u8
+    ensures { λ r. ⌜ r ≡ number m len ⌝ }
+{
+    if crossing::right(m) {
+        return machine_number(crossing::machine_of(m), len);
+    }
+    if machine::valid::sized(crossing::machine_of(m), len) {
+        return 2;
+    }
+    1
+}
+
+// The first of two refusals: k where there is one.
+fn first_of(k: u8, n: u8) -> u8
+    ensures { λ r. ⌜ r ≡ first-of k n ⌝ }
+{
+    if k == 0 {
+        return n;
+    }
+    k
+}
+
+// One event. Fields that are no event are refused after 1 and 2.
+#[no_mangle]
+pub extern "C" fn naszeptan_step(m: RawMachine, mem: &mut [u64], e: Fields) -> RawDone
+    ensures { λ r. ⌜ r ≡ step m (now (mem .entry)) e .done ⌝ }
+    ensures { λ r. ⌜ now (mem .exit) ≡ step m (now (mem .entry)) e .memory ⌝ }
+{
+    let len = mem.len();
+    let found = tape::reader::of_kind(e, true);
+    let Read::Record { thread, event } = found else {
+        return RawDone {
+            answer: first_of(naszeptan_valid(m, len), tape::number(found)),
+            machine: m,
+        };
+    };
+    if !crossing::right(m) {
+        return RawDone {
+            answer: naszeptan_valid(m, len),
+            machine: m,
+        };
+    }
+    let done = machine::step::step(crossing::machine_of(m), mem, thread, event);
+    RawDone {
+        answer: done.answer,
+        machine: crossing::raw_machine(done.machine),
+    }
+}
+
+// A tape, record by record.
+#[no_mangle]
+pub extern "C" fn naszeptan_run(m: RawMachine, mem: &mut [u64], tape: &[u8]) -> RawEnded
+    ensures { λ r. ⌜ r ≡ run m (now (mem .entry)) (now (tape .entry)) .ended ⌝ }
+    ensures { λ r. ⌜ now (mem .exit) ≡ run m (now (mem .entry)) (now (tape .entry)) .memory ⌝ }
+{
+    let len = mem.len();
+    if !crossing::right(m) {
+        return RawEnded {
+            answer: naszeptan_valid(m, len),
+            count: 0,
+            machine: m,
+        };
+    }
+    let ended = run::run(crossing::machine_of(m), mem, tape);
+    RawEnded {
+        answer: ended.answer,
+        count: ended.count,
+        machine: crossing::raw_machine(ended.machine),
+    }
+}
+
+// One record as fields.
+#[no_mangle]
+pub extern "C" fn naszeptan_read(bytes: &[u8]) -> RawRecord
+    ensures { λ r. ⌜ r ≡ read (now (bytes .entry)) ⌝ }
+{
+    let found = tape::reader::read(bytes);
+    match found {
+        Read::Record { thread, event } => RawRecord {
+            answer: 0,
+            event: tape::writer::fields_of(thread, event),
+        },
+        Read::Refused(n) => RawRecord {
+            answer: n,
+            event: Fields {
+                kind: 0,
+                thread: 0,
+                x: 0,
+                ra: 0,
+                rb: 0,
+                flags: 0,
+                index: 0,
+                si: 0,
+            },
+        },
+    }
+}
+
+// Fields as one record.
+#[no_mangle]
+pub extern "C" fn naszeptan_write(e: Fields, buf: &mut [u8]) -> u8
+    ensures { λ r. ⌜ r ≡ write-answer e (now (buf .entry)) ⌝ }
+    ensures { λ r. ⌜ now (buf .exit) ≡ write e (now (buf .entry)) ⌝ }
+{
+    let found = tape::reader::of_kind(e, true);
+    match found {
+        Read::Record { thread, event } => tape::writer::write(thread, event, buf),
+        Read::Refused(n) => n,
+    }
+}

@@ -1,0 +1,215 @@
+/*
+ * Naszeptan: a model of POWER's transactional memory, for C hosts.
+ *
+ * Link target/staticlib/libhost.a. It is code for x86-64 Linux and needs
+ * nothing but memcpy and memset of the C library. It keeps no state, prints
+ * nothing and allocates nothing: the machine is passed and given back by
+ * value, memory, tapes and buffers are lent by pointer and length.
+ *
+ * Any bits may be handed in. The one thing that a caller must keep: a pointer
+ * with its length names that many elements which the call may read (and, if
+ * not const, write) and which no one else touches meanwhile. Where the length
+ * is 0 the pointer is not used.
+ *
+ * Each call that can refuse gives a number of the table below. What is
+ * refused changes nothing: the machine given back is the one handed in, bit
+ * for bit but for padding, and memory or buffer stay as they were.
+ */
+#ifndef NASZEPTAN_H
+#define NASZEPTAN_H
+
+#include <stddef.h>
+#include <stdint.h>
+
+#ifdef __cplusplus
+extern "C" {
+#endif
+
+/* The version of the rules that this header was written for: the model's
+ * version in the upper 16 bits, the change requests that have landed in the
+ * lower. naszeptan_version() gives the archive's. */
+#define NASZEPTAN_VERSION UINT32_C(0x00040000)
+
+/* Sizes. */
+#define NASZEPTAN_THREADS 4        /* thread records of a machine */
+#define NASZEPTAN_GPRS 32          /* general registers */
+#define NASZEPTAN_CR_FIELDS 7      /* CR fields 1 to 7; CR0 stands apart */
+#define NASZEPTAN_LINE_WORDS 4     /* words of a line set: 256 lines */
+#define NASZEPTAN_LINE 16          /* doublewords of a line */
+#define NASZEPTAN_MEMORY 4096      /* doublewords of the largest memory */
+#define NASZEPTAN_PLACES 64        /* places of a transaction's log */
+#define NASZEPTAN_RECORD_SIZE 16   /* bytes of a tape record */
+#define NASZEPTAN_FIRST_BYTE 0xE3  /* first byte of each record */
+
+/* The numbers given back. A run goes on after 0, 20 and 21. */
+enum naszeptan_answer {
+  NASZEPTAN_DONE = 0,          /* done */
+  NASZEPTAN_SIZE = 1,          /* memory length or thread count */
+  NASZEPTAN_NO_MACHINE = 2,    /* not a valid machine */
+  NASZEPTAN_NO_THREAD = 3,     /* the event's thread is not below the count */
+  NASZEPTAN_OPERAND = 4,       /* register, BF, TO, SPR or index out of range */
+  NASZEPTAN_HOST_IN_T = 5,     /* the host event on a Transactional thread */
+  NASZEPTAN_TAPE_LENGTH = 6,   /* tape not a multiple of 16 bytes */
+  NASZEPTAN_BAD_FIRST_BYTE = 7,/* a record's first byte is not 0xE3 */
+  NASZEPTAN_NO_KIND = 8,       /* kind not 1 to 17 */
+  NASZEPTAN_FIELD = 9,         /* an unused field is not 0, or flags too big */
+  NASZEPTAN_SHORT_BUFFER = 10, /* the writer's buffer has under 16 bytes */
+  NASZEPTAN_FACILITY_OFF = 11, /* a TM instruction with TM = 0 */
+  NASZEPTAN_PRIVILEGED = 12,   /* a privileged instruction in problem state */
+  NASZEPTAN_BAD_THING = 13,    /* TM Bad Thing */
+  NASZEPTAN_HANDLED = 20,      /* done; handled a failure of its own thread */
+  NASZEPTAN_RECORDED = 21      /* done; recorded a failure of its own thread
+                                  in Suspended state */
+};
+
+/* A thread's state, as control.state has it. */
+enum naszeptan_state {
+  NASZEPTAN_N = 0, /* Non-transactional */
+  NASZEPTAN_T = 1, /* Transactional */
+  NASZEPTAN_S = 2  /* Suspended */
+};
+
+/* The seventeen kinds of event, and the fields that each uses. A field that
+ * its kind does not use must be 0. */
+enum naszeptan_kind {
+  NASZEPTAN_TBEGIN = 1,     /* flags: R */
+  NASZEPTAN_TEND = 2,       /* flags: A */
+  NASZEPTAN_TABORT = 3,     /* ra */
+  NASZEPTAN_TABORTWC = 4,   /* x: TO, ra, rb */
+  NASZEPTAN_TABORTDC = 5,   /* x: TO, ra, rb */
+  NASZEPTAN_TSR = 6,        /* flags: L (1 resumes, 0 suspends) */
+  NASZEPTAN_TCHECK = 7,     /* x: BF */
+  NASZEPTAN_TRECLAIM = 8,   /* ra */
+  NASZEPTAN_TRECHKPT = 9,   /* none */
+  NASZEPTAN_MTSPR = 10,     /* x: SPR, ra */
+  NASZEPTAN_MFSPR = 11,     /* x: SPR, ra: the target RT */
+  NASZEPTAN_LD = 12,        /* x: RT, index */
+  NASZEPTAN_STD = 13,       /* ra, index */
+  NASZEPTAN_ADDI = 14,      /* x: RT, ra, si */
+  NASZEPTAN_DISALLOWED = 15,/* none: any instruction that fails a transaction */
+  NASZEPTAN_INTERRUPT = 16, /* none */
+  NASZEPTAN_HOST = 17       /* flags: PR + 2 * TM */
+};
+
+/* The registers that a checkpoint keeps. cr[n - 1] is CR field n. */
+struct naszeptan_registers {
+  uint64_t gpr[NASZEPTAN_GPRS];
+  uint8_t cr[NASZEPTAN_CR_FIELDS];
+};
+
+/* A set of lines: line l is bit l % 64 of words[l / 64], bit 0 the lowest. */
+struct naszeptan_lines {
+  uint64_t words[NASZEPTAN_LINE_WORDS];
+};
+
+/* One logged store: the doubleword's index in memory, and its value. */
+struct naszeptan_entry {
+  uint32_t index;
+  uint64_t value;
+};
+
+/* What a transaction has read and written. Places past count are 0. */
+struct naszeptan_transaction {
+  struct naszeptan_lines reads;
+  struct naszeptan_lines writes;
+  size_t count;
+  struct naszeptan_entry log[NASZEPTAN_PLACES];
+};
+
+/* pr, tm and doomed are 0 or 1; state is an enum naszeptan_state. Other
+ * values are no machine. TEXASR's bit 0 is the highest of the 64. */
+struct naszeptan_control {
+  uint64_t nia;
+  uint8_t pr;
+  uint8_t tm;
+  uint8_t state;
+  uint8_t doomed;
+  uint64_t tfhar;
+  uint64_t tfiar;
+  uint64_t texasr;
+};
+
+struct naszeptan_thread {
+  struct naszeptan_registers live;
+  uint8_t cr0;
+  struct naszeptan_registers checkpoint;
+  struct naszeptan_control control;
+  struct naszeptan_transaction transaction;
+};
+
+/* The first count of the thread records are the machine's threads. */
+struct naszeptan_machine {
+  size_t count;
+  struct naszeptan_thread threads[NASZEPTAN_THREADS];
+};
+
+/* One event and the thread that executes it. kind is an enum naszeptan_kind,
+ * which says what the other fields mean. */
+struct naszeptan_event {
+  uint8_t kind;
+  uint8_t thread;
+  uint8_t x;
+  uint8_t ra;
+  uint8_t rb;
+  uint8_t flags;
+  uint32_t index;
+  uint16_t si;
+};
+
+/* A step's answer, and the machine after it. */
+struct naszeptan_done {
+  uint8_t answer;
+  struct naszeptan_machine machine;
+};
+
+/* The answer that ended a run (0 at the tape's end), how many records were
+ * done, and the machine after exactly those. */
+struct naszeptan_ended {
+  uint8_t answer;
+  size_t count;
+  struct naszeptan_machine machine;
+};
+
+/* A reader's answer: 0 and the event, or 6 to 9 and an event of zeros. */
+struct naszeptan_record {
+  uint8_t answer;
+  struct naszeptan_event event;
+};
+
+/* The version of the rules that the archive keeps; compare it with
+ * NASZEPTAN_VERSION. */
+uint32_t naszeptan_version(void);
+
+/* The fresh machine: four threads, Non-transactional, PR = 1, TM = 1, all
+ * else 0. Its memory is yours to lend: 4,096 doublewords of 0. */
+struct naszeptan_machine naszeptan_fresh(void);
+
+/* Whether these bits are a machine over a memory of len doublewords: 0, or 1
+ * (memory length or thread count), or 2 (not a valid machine). */
+uint8_t naszeptan_valid(struct naszeptan_machine machine, size_t len);
+
+/* One event. Refused by 1, 2, 8, 9, 3, 4, 5, 11, 12, 13: the first that
+ * applies in this order. */
+struct naszeptan_done naszeptan_step(struct naszeptan_machine machine,
+                                     uint64_t *memory, size_t len,
+                                     struct naszeptan_event event);
+
+/* A tape, record by record, until one is refused or the tape ends. Refused as
+ * a whole by 1, 2 and 6, also where the tape is empty. */
+struct naszeptan_ended naszeptan_run(struct naszeptan_machine machine,
+                                     uint64_t *memory, size_t len,
+                                     const uint8_t *tape, size_t bytes);
+
+/* One record of 16 bytes as an event. Refused by 6, 7, 8, 9 in this order. */
+struct naszeptan_record naszeptan_read(const uint8_t *record, size_t bytes);
+
+/* One event as a record, in the buffer's first 16 bytes. Refused by 8, 9, 10
+ * in this order. */
+uint8_t naszeptan_write(struct naszeptan_event event,
+                        uint8_t *buffer, size_t bytes);
+
+#ifdef __cplusplus
+}
+#endif
+
+#endif
