@@ -2,9 +2,11 @@
  * Naszeptan: a model of POWER's transactional memory, for C hosts.
  *
  * Link target/staticlib/libhost.a. It is code for x86-64 Linux and needs
- * nothing but memcpy and memset of the C library. It keeps no state, prints
- * nothing and allocates nothing: the machine is passed and given back by
- * value, memory, tapes and buffers are lent by pointer and length.
+ * nothing but memcpy, memmove and memset of the C library. It keeps no state,
+ * prints nothing and allocates nothing: the machine (6,696 bytes) is passed
+ * and given back by value; memory, tapes and buffers are lent by pointer and
+ * length. Calls from several threads at once are fine where they lend
+ * different memory. Leave a call 256 KB of stack.
  *
  * Any bits may be handed in. The one thing that a caller must keep: a pointer
  * with its length names that many elements which the call may read (and, if

@@ -51,7 +51,7 @@ taken f z w e p =
 -- ---- fields and events
 
 -- the fields of an event are taken as that event
-written : (w : ℕ) (e : Event) → of-kind (fields-of w e) true ≡ Record w e
+pub written : (w : ℕ) (e : Event) → of-kind (fields-of w e) true ≡ Record w e
 unfolding one-of clear-but unused-clear event-of fields-of judged of-kind
 written w (Tbegin true) = refl
 written w (Tbegin false) = refl

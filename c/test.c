@@ -1,0 +1,218 @@
+/* What a C host is promised: each function through the archive, each refusal,
+ * and that what is refused changes nothing. Prints the first that fails. */
+#include <stdio.h>
+#include <stdlib.h>
+#include <string.h>
+
+#include "naszeptan.h"
+
+/* The sizes that the archive was compiled for. */
+_Static_assert(sizeof(struct naszeptan_registers) == 264, "registers");
+_Static_assert(sizeof(struct naszeptan_entry) == 16, "entry");
+_Static_assert(sizeof(struct naszeptan_transaction) == 1096, "transaction");
+_Static_assert(sizeof(struct naszeptan_control) == 40, "control");
+_Static_assert(sizeof(struct naszeptan_thread) == 1672, "thread");
+_Static_assert(sizeof(struct naszeptan_machine) == 6696, "machine");
+_Static_assert(sizeof(struct naszeptan_event) == 16, "event");
+
+static int checks;
+
+#define CHECK(holds)                                                           \
+  do {                                                                         \
+    checks++;                                                                  \
+    if (!(holds)) {                                                            \
+      printf("%s:%d: not so: %s\n", __FILE__, __LINE__, #holds);               \
+      exit(1);                                                                 \
+    }                                                                          \
+  } while (0)
+
+static uint64_t memory[NASZEPTAN_MEMORY];
+
+/* Field by field: the padding between them may differ. */
+static int same_machine(const struct naszeptan_machine *a,
+                        const struct naszeptan_machine *b) {
+  if (a->count != b->count)
+    return 0;
+  for (int t = 0; t < NASZEPTAN_THREADS; t++) {
+    const struct naszeptan_thread *x = &a->threads[t], *y = &b->threads[t];
+    const struct naszeptan_control *j = &x->control, *k = &y->control;
+    const struct naszeptan_transaction *p = &x->transaction,
+                                       *q = &y->transaction;
+    if (memcmp(x->live.gpr, y->live.gpr, sizeof x->live.gpr) != 0 ||
+        memcmp(x->live.cr, y->live.cr, sizeof x->live.cr) != 0 ||
+        memcmp(x->checkpoint.gpr, y->checkpoint.gpr, sizeof x->live.gpr) != 0 ||
+        memcmp(x->checkpoint.cr, y->checkpoint.cr, sizeof x->live.cr) != 0 ||
+        x->cr0 != y->cr0 || j->nia != k->nia || j->pr != k->pr ||
+        j->tm != k->tm || j->state != k->state || j->doomed != k->doomed ||
+        j->tfhar != k->tfhar || j->tfiar != k->tfiar ||
+        j->texasr != k->texasr ||
+        memcmp(&p->reads, &q->reads, sizeof p->reads) != 0 ||
+        memcmp(&p->writes, &q->writes, sizeof p->writes) != 0 ||
+        p->count != q->count)
+      return 0;
+    for (int n = 0; n < NASZEPTAN_PLACES; n++)
+      if (p->log[n].index != q->log[n].index ||
+          p->log[n].value != q->log[n].value)
+        return 0;
+  }
+  return 1;
+}
+
+static struct naszeptan_event event(uint8_t kind, uint8_t thread) {
+  struct naszeptan_event e = {0};
+  e.kind = kind;
+  e.thread = thread;
+  return e;
+}
+
+static struct naszeptan_event load(uint8_t thread, uint8_t rt, uint32_t index) {
+  struct naszeptan_event e = event(NASZEPTAN_LD, thread);
+  e.x = rt;
+  e.index = index;
+  return e;
+}
+
+static struct naszeptan_event store(uint8_t thread, uint8_t ra,
+                                    uint32_t index) {
+  struct naszeptan_event e = event(NASZEPTAN_STD, thread);
+  e.ra = ra;
+  e.index = index;
+  return e;
+}
+
+/* The event is refused by the number; machine and memory stay. */
+static void refused(struct naszeptan_machine m, size_t len,
+                    struct naszeptan_event e, uint8_t number) {
+  static uint64_t before[NASZEPTAN_MEMORY];
+  memcpy(before, memory, sizeof memory);
+  struct naszeptan_done done = naszeptan_step(m, memory, len, e);
+  CHECK(done.answer == number);
+  CHECK(same_machine(&done.machine, &m));
+  CHECK(memcmp(before, memory, sizeof memory) == 0);
+}
+
+static void machines(void) {
+  struct naszeptan_machine m = naszeptan_fresh();
+  CHECK(naszeptan_version() == NASZEPTAN_VERSION);
+  CHECK(m.count == NASZEPTAN_THREADS && m.threads[3].control.pr == 1);
+  CHECK(naszeptan_valid(m, NASZEPTAN_MEMORY) == NASZEPTAN_DONE);
+  CHECK(naszeptan_valid(m, NASZEPTAN_LINE) == NASZEPTAN_DONE);
+  CHECK(naszeptan_valid(m, 0) == NASZEPTAN_SIZE);
+  CHECK(naszeptan_valid(m, NASZEPTAN_LINE + 1) == NASZEPTAN_SIZE);
+  CHECK(naszeptan_valid(m, SIZE_MAX) == NASZEPTAN_SIZE);
+  m.count = 5;
+  CHECK(naszeptan_valid(m, NASZEPTAN_MEMORY) == NASZEPTAN_SIZE);
+  m.count = 3; /* the fourth record is not all zero */
+  CHECK(naszeptan_valid(m, NASZEPTAN_MEMORY) == NASZEPTAN_NO_MACHINE);
+}
+
+/* Bits that are no machine, in each flag of each thread. */
+static void bits(void) {
+  struct naszeptan_event e = event(NASZEPTAN_TBEGIN, 0);
+  for (int t = 0; t < NASZEPTAN_THREADS; t++)
+    for (int field = 0; field < 4; field++) {
+      struct naszeptan_machine m = naszeptan_fresh();
+      struct naszeptan_control *k = &m.threads[t].control;
+      *(field == 0   ? &k->pr
+        : field == 1 ? &k->tm
+        : field == 2 ? &k->doomed
+                     : &k->state) = field == 3 ? 3 : 2;
+      CHECK(naszeptan_valid(m, NASZEPTAN_MEMORY) == NASZEPTAN_NO_MACHINE);
+      refused(m, NASZEPTAN_MEMORY, e, NASZEPTAN_NO_MACHINE);
+      refused(m, 17, e, NASZEPTAN_SIZE);
+      struct naszeptan_ended ended =
+          naszeptan_run(m, memory, NASZEPTAN_MEMORY, NULL, 0);
+      CHECK(ended.answer == NASZEPTAN_NO_MACHINE && ended.count == 0);
+      CHECK(same_machine(&ended.machine, &m));
+    }
+  struct naszeptan_machine m;
+  memset(&m, 0xFF, sizeof m);
+  refused(m, NASZEPTAN_MEMORY, e, NASZEPTAN_SIZE);
+  m.count = 4;
+  refused(m, NASZEPTAN_MEMORY, e, NASZEPTAN_NO_MACHINE);
+}
+
+static void refusals(void) {
+  struct naszeptan_machine m = naszeptan_fresh();
+  struct naszeptan_event none = event(0, 9), unused = event(NASZEPTAN_TEND, 9);
+  unused.rb = 1;
+  refused(m, NASZEPTAN_MEMORY, none, NASZEPTAN_NO_KIND);
+  refused(m, NASZEPTAN_MEMORY, event(18, 0), NASZEPTAN_NO_KIND);
+  refused(m, NASZEPTAN_MEMORY, unused, NASZEPTAN_FIELD);
+  refused(m, 0, none, NASZEPTAN_SIZE);
+  refused(m, NASZEPTAN_MEMORY, event(NASZEPTAN_TEND, 4), NASZEPTAN_NO_THREAD);
+  refused(m, NASZEPTAN_MEMORY, store(0, 32, 0), NASZEPTAN_OPERAND);
+  refused(m, NASZEPTAN_LINE, store(0, 3, 16), NASZEPTAN_OPERAND);
+  refused(m, NASZEPTAN_MEMORY, event(NASZEPTAN_TRECLAIM, 0),
+          NASZEPTAN_PRIVILEGED);
+  m.threads[0].control.pr = 0;
+  refused(m, NASZEPTAN_MEMORY, event(NASZEPTAN_TRECLAIM, 0),
+          NASZEPTAN_BAD_THING);
+  m.threads[0].control.tm = 0;
+  refused(m, NASZEPTAN_MEMORY, event(NASZEPTAN_TBEGIN, 0),
+          NASZEPTAN_FACILITY_OFF);
+  m = naszeptan_fresh();
+  m = naszeptan_step(m, memory, NASZEPTAN_MEMORY, event(NASZEPTAN_TBEGIN, 0))
+          .machine;
+  refused(m, NASZEPTAN_MEMORY, event(NASZEPTAN_HOST, 0), NASZEPTAN_HOST_IN_T);
+}
+
+/* A transaction fails because another thread stores to what it has read. */
+static void conflict(void) {
+  struct naszeptan_event events[] = {event(NASZEPTAN_TBEGIN, 0), load(0, 4, 0),
+                                     store(0, 4, 16), store(1, 5, 0)};
+  uint8_t tape[4 * NASZEPTAN_RECORD_SIZE];
+  struct naszeptan_machine m = naszeptan_fresh();
+  m.threads[1].live.gpr[5] = 7;
+  for (int n = 0; n < 4; n++)
+    CHECK(naszeptan_write(events[n], tape + 16 * n, 16) == NASZEPTAN_DONE);
+  struct naszeptan_ended ended =
+      naszeptan_run(m, memory, NASZEPTAN_MEMORY, tape, sizeof tape);
+  CHECK(ended.answer == NASZEPTAN_DONE && ended.count == 4);
+  struct naszeptan_control k = ended.machine.threads[0].control;
+  CHECK(k.state == NASZEPTAN_N && k.nia == 4);
+  CHECK(k.texasr >> (63 - 12) & 1); /* a conflict with a plain access */
+  CHECK(k.texasr >> (63 - 36) & 1); /* FS */
+  CHECK(memory[0] == 7 && memory[16] == 0);
+  memory[0] = 0;
+}
+
+static void records(void) {
+  uint8_t buffer[17];
+  struct naszeptan_event e = store(0, 3, 17), wrong = e;
+  static const uint8_t paper[16] = {0xE3, 0x0D, 0, 0, 3, 0,
+                                    0,    0,    0, 0, 0, 0x11};
+  memset(buffer, 0xAA, sizeof buffer);
+  CHECK(naszeptan_write(e, buffer, 15) == NASZEPTAN_SHORT_BUFFER &&
+        buffer[0] == 0xAA);
+  wrong.rb = 1;
+  CHECK(naszeptan_write(wrong, buffer, 17) == NASZEPTAN_FIELD &&
+        buffer[0] == 0xAA);
+  wrong.kind = 99;
+  CHECK(naszeptan_write(wrong, buffer, 0) == NASZEPTAN_NO_KIND &&
+        buffer[0] == 0xAA);
+  CHECK(naszeptan_write(e, buffer, 17) == NASZEPTAN_DONE);
+  CHECK(memcmp(buffer, paper, 16) == 0 && buffer[16] == 0xAA);
+  struct naszeptan_record r = naszeptan_read(buffer, 16);
+  CHECK(r.answer == 0 && r.event.kind == 13 && r.event.ra == 3 &&
+        r.event.index == 17);
+  CHECK(naszeptan_read(buffer, 17).answer == NASZEPTAN_TAPE_LENGTH);
+  CHECK(naszeptan_read(NULL, 0).answer == NASZEPTAN_TAPE_LENGTH);
+  buffer[14] = 1;
+  CHECK(naszeptan_read(buffer, 16).answer == NASZEPTAN_FIELD);
+  buffer[1] = 0;
+  r = naszeptan_read(buffer, 16);
+  CHECK(r.answer == NASZEPTAN_NO_KIND && r.event.ra == 0 && r.event.index == 0);
+  buffer[0] = 0;
+  CHECK(naszeptan_read(buffer, 16).answer == NASZEPTAN_BAD_FIRST_BYTE);
+}
+
+int main(void) {
+  machines();
+  bits();
+  refusals();
+  conflict();
+  records();
+  printf("C host: %d checks passed\n", checks);
+  return 0;
+}

@@ -1,0 +1,175 @@
+-- The crossing loses nothing, and what is refused changes nothing.
+use mathlib.Core.Path.{_≡_, refl, sym, ap, _∙_}
+use mathlib.Core.Bool.{Bool, true, false, cond, _&&_, and-eq-true-iff}
+use mathlib.Core.List.{List, [], _∷_}
+use Prim.Native.Nat.{ℕ, zero, suc, _≤_}
+use native.Mathlib.Omega.{arith}
+use lib.Dec.{eqb, leb}
+use lib.ListN.{length, getD}
+use borrow.Author.Tests.{leb-true}
+use Rattle.base.specs.Below.{bit}
+use Rattle.base.specs.Limits.{most-threads}
+use Rattle.thread.specs.declared.State.{State}
+use Rattle.thread.specs.declared.State.the-variants.{N, T, S}
+use Rattle.thread.specs.declared.Control.{Control}
+use Rattle.thread.specs.declared.Thread.{Thread}
+use Rattle.machine.specs.Machine.{thread, no-thread}
+use Rattle.machine.specs.Valid.{sized}
+use Rattle.machine.specs.declared.Machine.{Machine}
+use Rattle.tape.specs.declared.Read.{Read}
+use Rattle.tape.specs.declared.Read.the-variants.{Record, Refused}
+use Rattle.tape.proofs.Round.{written}
+use Rattle.run.specs.Run.{goes-on}
+use Rattle.run.proofs.Steps as steps
+use Rattle.host.specs.Crossing.{state-of, state-number, control-right, right, control-of, raw-control, thread-of, raw-thread, machine-of, raw-machine, raw-at, no-raw-thread}
+use Rattle.host.specs.Host.{number, met, outcome, event-read, step, run}
+use Rattle.host.specs.Promises.{Forth, ForthRight, Back, NoMachine, StopChangesNothing, EventCrosses}
+use Rattle.host.specs.declared.RawControl.{RawControl}
+use Rattle.host.specs.declared.RawThread.{RawThread}
+use Rattle.host.specs.declared.RawMachine.{RawMachine}
+
+-- ---- flags, states, control registers
+
+bit-back : (n : ℕ) → n ≤ 1 → bit (eqb n 1) ≡ n
+bit-back zero h = refl
+bit-back (suc zero) h = refl
+bit-back (suc (suc n)) h = absurd (omega (arith, h))
+
+bit-forth : (b : Bool) → eqb (bit b) 1 ≡ b
+bit-forth true = refl
+bit-forth false = refl
+
+bit-small : (b : Bool) → leb (bit b) 1 ≡ true
+bit-small true = refl
+bit-small false = refl
+
+state-back : (n : ℕ) → n ≤ 2 → state-number (state-of n) ≡ n
+unfolding state-of
+state-back zero h = refl
+state-back (suc zero) h = refl
+state-back (suc (suc zero)) h = refl
+state-back (suc (suc (suc n))) h = absurd (omega (arith, h))
+
+state-forth : (s : State) → state-of (state-number s) ≡ s
+unfolding state-of
+state-forth N = refl
+state-forth T = refl
+state-forth S = refl
+
+state-small : (s : State) → leb (state-number s) 2 ≡ true
+state-small N = refl
+state-small T = refl
+state-small S = refl
+
+control-back : (k : RawControl) → control-right k ≡ true → raw-control (control-of k) ≡ k
+unfolding control-right control-of raw-control
+control-back k h =
+    let q = simp and-eq-true-iff at h in
+    λ j. record {
+      nia = k .nia;
+      pr = bit-back (k .pr) (leb-true _ _ (q .0 .0 .0)) j;
+      tm = bit-back (k .tm) (leb-true _ _ (q .0 .0 .1)) j;
+      state = state-back (k .state) (leb-true _ _ (q .0 .1)) j;
+      doomed = bit-back (k .doomed) (leb-true _ _ (q .1)) j;
+      tfhar = k .tfhar;
+      tfiar = k .tfiar;
+      texasr = k .texasr;
+    }
+
+control-forth : (k : Control) → control-of (raw-control k) ≡ k
+unfolding control-of raw-control
+control-forth k =
+    λ j. record {
+      nia = k .nia;
+      pr = bit-forth (k .pr) j;
+      tm = bit-forth (k .tm) j;
+      state = state-forth (k .state) j;
+      doomed = bit-forth (k .doomed) j;
+      tfhar = k .tfhar;
+      tfiar = k .tfiar;
+      texasr = k .texasr;
+    }
+
+raw-right : (k : Control) → control-right (raw-control k) ≡ true
+unfolding control-right raw-control
+raw-right k = simp (bit-small (k .pr), bit-small (k .tm), state-small (k .state), bit-small (k .doomed))
+
+-- ---- threads, machines
+
+thread-back : (t : RawThread) → control-right (t .control) ≡ true → raw-thread (thread-of t) ≡ t
+unfolding thread-of raw-thread
+thread-back t h =
+    λ j. record { live = t .live; cr0 = t .cr0; checkpoint = t .checkpoint; control = control-back (t .control) h j; transaction = t .transaction }
+
+thread-forth : (t : Thread) → thread-of (raw-thread t) ≡ t
+unfolding thread-of raw-thread
+thread-forth t =
+    λ j. record { live = t .live; cr0 = t .cr0; checkpoint = t .checkpoint; control = control-forth (t .control) j; transaction = t .transaction }
+
+-- a list of four is its four places
+four-places : {A : Type 0} (ts : List A) (d : A) → length ts ≡ most-threads → getD ts 0 d ∷ getD ts 1 d ∷ getD ts 2 d ∷ getD ts 3 d ∷ [] ≡ ts
+four-places [] d p = absurd (omega (arith, p))
+four-places (a ∷ []) d p = absurd (omega (arith, p))
+four-places (a ∷ b ∷ []) d p = absurd (omega (arith, p))
+four-places (a ∷ b ∷ c ∷ []) d p = absurd (omega (arith, p))
+four-places (a ∷ b ∷ c ∷ e ∷ []) d p = refl
+four-places (a ∷ b ∷ c ∷ e ∷ f ∷ ts) d p = absurd (omega (arith, p))
+
+pub forth : Forth
+unfolding machine-of raw-machine
+forth m four =
+    (λ j. record {
+      count = m .count;
+      threads = thread-forth (thread (m .threads) 0) j ∷ thread-forth (thread (m .threads) 1) j ∷ thread-forth (thread (m .threads) 2) j ∷ thread-forth (thread (m .threads) 3) j ∷ [];
+    }) ∙ (λ j. record { count = m .count; threads = four-places (m .threads) no-thread four j })
+
+pub forth-right : ForthRight
+unfolding right raw-machine raw-thread
+forth-right m =
+    simp (
+      raw-right (thread (m .threads) 0 .control),
+      raw-right (thread (m .threads) 1 .control),
+      raw-right (thread (m .threads) 2 .control),
+      raw-right (thread (m .threads) 3 .control),
+    )
+
+pub back : Back
+unfolding machine-of raw-machine right
+back m four h =
+    let q = simp and-eq-true-iff at h in
+    (λ j. record {
+      count = m .count;
+      threads = thread-back (raw-at m 0) (q .0 .0 .0) j ∷ thread-back (raw-at m 1) (q .0 .0 .1) j ∷ thread-back (raw-at m 2) (q .0 .1) j ∷ thread-back (raw-at m 3) (q .1) j ∷ [];
+    }) ∙ (λ j. record { count = m .count; threads = four-places (m .threads) no-raw-thread four j })
+
+-- ---- what is refused
+
+two : (m : RawMachine) (len : ℕ) → right m ≡ false → sized (machine-of m) len ≡ true → number m len ≡ 2
+unfolding number
+two m len broken fits = simp (broken, fits)
+
+no-machine-met : (m : RawMachine) (mem : List ℕ) → right m ≡ false → number m (length mem) ≡ 2 → (r : Read) → met r m mem ≡ outcome 2 m mem
+no-machine-met m mem broken n (Refused k) = simp n
+no-machine-met m mem broken n (Record w e) = simp (broken, n)
+
+pub no-machine : NoMachine
+unfolding step run
+no-machine m mem broken fits =
+    let n = two m (length mem) broken fits in
+    ((λ f. no-machine-met m mem broken n (event-read f)), (λ bytes. simp (broken, n)))
+
+-- by whether the bits are a machine's
+met-stops : (m : RawMachine) (mem : List ℕ) (r : Read) (b : Bool) → right m ≡ b → length (m .threads) ≡ most-threads
+    → goes-on (met r m mem .done .answer) ≡ false → (met r m mem .done .machine ≡ m) × (met r m mem .memory ≡ mem)
+met-stops m mem (Refused k) b p four h = (refl, refl)
+met-stops m mem (Record w e) false p four h = (simp p, simp p)
+met-stops m mem (Record w e) true p four h =
+    let s = steps.stop-changes-nothing (machine-of m) mem w e (rw p at h) in
+    (simp (p, s .0, back m four p), simp (p, s .1))
+
+pub stop-changes-nothing : StopChangesNothing
+unfolding step
+stop-changes-nothing m mem f four h = met-stops m mem (event-read f) (right m) refl four h
+
+pub event-crosses : EventCrosses
+event-crosses = written
