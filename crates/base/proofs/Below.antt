@@ -1,6 +1,6 @@
 -- Laws of the tests of all numbers below a number: whether all pass, whether any passes, how many pass.
 use mathlib.Core.Path.{_≡_, refl, sym, ap, _∙_}
-use mathlib.Core.Bool.{Bool, true, false, _&&_, _||_, not, and-eq-true-iff, or-assoc, false≢true}
+use mathlib.Core.Bool.{Bool, true, false, _&&_, _||_, not, and-assoc, and-eq-true-iff, or-assoc, false≢true}
 use mathlib.Core.List.{List, map}
 use mathlib.Core.Logic.{⊎-elim}
 use Prim.Native.Nat.{ℕ, zero, suc, _+_, _-_, _≤_, _<_}
@@ -20,6 +20,13 @@ and-right a b p = and-eq-true-iff a b .0 p .1
 pub and-intro : (a b : Bool) → a ≡ true → b ≡ true → (a && b) ≡ true
 and-intro a b p q = and-eq-true-iff a b .1 (p, q)
 
+-- what a callee's flag says, from a negated test of it
+pub flag-true : {r a : Bool} → r ≡ a → not r ≡ false → a ≡ true
+flag-true e p = sym e ∙ not-false _ p
+
+pub flag-false : {r a : Bool} → r ≡ a → not r ≡ true → a ≡ false
+flag-false e p = sym e ∙ not-true _ p
+
 -- ---- whether all pass
 
 -- a loop that goes down: at its end, and one turn
@@ -32,6 +39,20 @@ pub all-step : (f : ℕ → Bool) (i : ℕ) → 0 < i → all-below f i ≡ (f (
 unfolding all-below
 all-step f zero h = absurd (not-suc-le-zero h)
 all-step f (suc n) h = ap (λ (k : ℕ). f k && all-below f k) (let e : n ≡ suc n - 1 = omega arith in e)
+
+-- what is searched for holds if the numbers below i pass
+module _ {v : Bool} (f : ℕ → Bool) (i : ℕ) (e : v ≡ all-below f i) where
+  -- a turn that ends the search
+  pub all-fails : 0 < i → f (i - 1) ≡ false → false ≡ v
+  all-fails h p = sym (e ∙ all-step f i h ∙ simp p)
+
+  -- one after which it goes on
+  pub all-passes : 0 < i → f (i - 1) ≡ true → v ≡ all-below f (i - 1)
+  all-passes h p = e ∙ all-step f i h ∙ simp p
+
+  -- none is left
+  pub all-passed : i ≤ 0 → true ≡ v
+  all-passed h = sym (e ∙ all-none f i h)
 
 -- all pass if each passes
 pub all-at : (f : ℕ → Bool) (n i : ℕ) → all-below f n ≡ true → i < n → f i ≡ true
@@ -52,6 +73,14 @@ unfolding all-below
 all-cong f g zero h = refl
 all-cong f g (suc n) h = λ j. h n (omega arith) j && all-cong f g n (λ i l. h i (omega arith)) j
 
+-- a + b numbers: b more, and those below a
+pub all-add : (f : ℕ → Bool) (a b : ℕ) → all-below f (a + b) ≡ (all-below (λ i. f (a + i)) b && all-below f a)
+unfolding all-below
+all-add f a zero = ap (all-below f) (add-zero a)
+all-add f a (suc b) =
+    ap (all-below f) (add-suc a b) ∙ ap (_&&_ (f (a + b))) (all-add f a b)
+    ∙ sym (and-assoc (f (a + b)) (all-below (λ i. f (a + i)) b) (all-below f a))
+
 -- ---- whether any passes
 
 pub any-none : (f : ℕ → Bool) (i : ℕ) → i ≤ 0 → any-below f i ≡ false
@@ -63,6 +92,17 @@ pub any-step : (f : ℕ → Bool) (i : ℕ) → 0 < i → any-below f i ≡ (f (
 unfolding any-below
 any-step f zero h = absurd (not-suc-le-zero h)
 any-step f (suc n) h = ap (λ (k : ℕ). f k || any-below f k) (let e : n ≡ suc n - 1 = omega arith in e)
+
+-- the same of a search for a number that passes
+module _ {v : Bool} (f : ℕ → Bool) (i : ℕ) (e : v ≡ any-below f i) where
+  pub any-passes : 0 < i → f (i - 1) ≡ true → true ≡ v
+  any-passes h p = sym (e ∙ any-step f i h ∙ simp p)
+
+  pub any-fails : 0 < i → f (i - 1) ≡ false → v ≡ any-below f (i - 1)
+  any-fails h p = e ∙ any-step f i h ∙ simp p
+
+  pub any-failed : i ≤ 0 → false ≡ v
+  any-failed h = sym (e ∙ any-none f i h)
 
 -- one passes unless all fail
 any-not : (f : ℕ → Bool) (n : ℕ) → any-below f n ≡ not (all-below (λ i. not (f i)) n)
@@ -103,7 +143,6 @@ unfolding any-below
 any-cong f g zero h = refl
 any-cong f g (suc n) h = λ j. h n (omega arith) j || any-cong f g n (λ i l. h i (omega arith)) j
 
--- a + b numbers: b more, and those below a
 pub any-add : (f : ℕ → Bool) (a b : ℕ) → any-below f (a + b) ≡ (any-below (λ i. f (a + i)) b || any-below f a)
 unfolding any-below
 any-add f a zero = ap (any-below f) (add-zero a)

@@ -1,6 +1,6 @@
 -- Laws of the line sets: places of words, what a set holds after a line was added, footprints and meetings.
 use mathlib.Core.Path.{_≡_, refl, sym, ap, _∙_}
-use mathlib.Core.Bool.{Bool, true, false, _&&_, _||_, not, and-comm, or-comm, or-false, or-true, true≢false}
+use mathlib.Core.Bool.{Bool, true, false, _&&_, _||_, not, Bool·beq, and-comm, or-comm, or-false, or-true, true≢false}
 use mathlib.Core.List.{List}
 use Prim.Native.Nat.{ℕ, zero, suc, _+_, _-_, _*_, _/_, _%_, _^_, _≤_, _<_, min, max}
 use native.Mathlib.Nat.{mod-lt, zero-div, div-one, lt-of-le-of-lt}
@@ -16,9 +16,9 @@ use lib.ListN.{getD, length, length-set, replicate}
 use lib.Seq.{getD-set-same, getD-set-other, set-out}
 use borrow.Author.Tests.{eq-eqb, ne-eqb, eqb-true}
 use Rattle.base.specs.Limits.{lines, words}
-use Rattle.base.specs.Below.{bit, any-below, count-below}
-use Rattle.base.proofs.Below.{any-at, any-false, any-false-at, any-witness, any-cong, any-add, count-low, count-cong, count-le, count-add, count-one, and-intro}
-use Rattle.lines.specs.Lines.{place, word, empty, has, with, meets, footprint, shared, joined}
+use Rattle.base.specs.Below.{bit, all-below, any-below, count-below}
+use Rattle.base.proofs.Below.{all-at, all-from, all-cong, all-add, any-at, any-false, any-false-at, any-witness, any-cong, any-add, count-low, count-cong, count-le, count-add, count-one, and-intro}
+use Rattle.lines.specs.Lines.{place, word, empty, has, with, meets, same, footprint, shared, alike, joined}
 use Rattle.lines.specs.declared.LineSet.{LineSet}
 
 -- ---- the places of a word
@@ -106,13 +106,16 @@ ones-count (suc k) n h =
     ∙ (λ j. bit (place n 0) + count-below (λ i. half-place n i j) k)
     ∙ sym (count-low (place n) k)
 
--- a number of k digits with no place set is 0
-no-place : (k n : ℕ) → n < 2 ^ k → ((i : ℕ) → i < k → place n i ≡ false) → n ≡ 0
-no-place zero n h p = lt-one h
-no-place (suc k) n h p =
-    let low : n % 2 ≡ 0 = sym (digit-bit (n % 2) (digit n)) ∙ ap bit (sym (low-place n) ∙ p 0 (omega arith)) in
-    let high : n / 2 ≡ 0 = no-place k (n / 2) (omega arith) (λ i l. half-place n i ∙ p (suc i) (omega arith)) in
+-- numbers of k digits with the same places set are equal
+same-places : (k m n : ℕ) → m < 2 ^ k → n < 2 ^ k → ((i : ℕ) → i < k → place m i ≡ place n i) → m ≡ n
+same-places zero m n g h p = lt-one g ∙ sym (lt-one h)
+same-places (suc k) m n g h p =
+    let low : m % 2 ≡ n % 2 = sym (low-digit m) ∙ ap bit (p 0 (omega arith)) ∙ low-digit n in
+    let high : m / 2 ≡ n / 2 = same-places k (m / 2) (n / 2) (omega arith) (omega arith) (λ i l. half-place m i ∙ p (suc i) (omega arith) ∙ sym (half-place n i)) in
     omega arith
+  where
+    low-digit : (x : ℕ) → bit (place x 0) ≡ x % 2
+    low-digit x = ap bit (low-place x) ∙ digit-bit (x % 2) (digit x)
 
 -- and such a number has a place set unless it is 0
 pub any-place : (k n : ℕ) → n < 2 ^ k → any-below (place n) k ≡ not (eqb n 0)
@@ -122,7 +125,7 @@ any-place k n h = go (any-below (place n) k) refl
     go true e =
         let w = any-witness (place n) k e in
         ap not (sym (ne-eqb n 0 (λ z. true≢false (sym (w .2) ∙ ap (λ (x : ℕ). place x (w .0)) z ∙ zero-place (w .0)))))
-    go false e = ap not (sym (eq-eqb n 0 (no-place k n h (λ i l. any-false-at (place n) k i e l))))
+    go false e = ap not (sym (eq-eqb n 0 (same-places k n 0 h (omega arith) (λ i l. any-false-at (place n) k i e l ∙ sym (zero-place i)))))
 
 -- the ones of two joined words are the places that are set in either
 pub joined-ones : (a b : ℕ) → a < 2 ^ 64 → b < 2 ^ 64 → ones (bitOr a b) ≡ joined a b
@@ -139,6 +142,29 @@ unfolding shared
 shared-and a b h =
     any-cong _ _ 64 (λ i l. sym (and-place a b i)) ∙ any-place 64 (bitAnd a b) (lt-of-le-of-lt (and-le-l a b) h)
 
+-- two words are equal if the same places are set
+pub alike-eqb : (a b : ℕ) → a < 2 ^ 64 → b < 2 ^ 64 → alike a b ≡ eqb a b
+unfolding alike
+alike-eqb a b h k = go (all-below agree 64) refl
+  where
+    agree : ℕ → Bool
+    agree i = Bool·beq (place a i) (place b i)
+
+    beq-equal : (x y : Bool) → Bool·beq x y ≡ true → x ≡ y
+    beq-equal true true p = refl
+    beq-equal true false p = sym p
+    beq-equal false true p = p
+    beq-equal false false p = refl
+
+    beq-same : (x : Bool) → Bool·beq x x ≡ true
+    beq-same true = refl
+    beq-same false = refl
+
+    go : (t : Bool) → all-below agree 64 ≡ t → t ≡ eqb a b
+    go true e = sym (eq-eqb a b (same-places 64 a b h k (λ i l. beq-equal _ _ (all-at agree 64 i e l))))
+    go false e =
+        sym (ne-eqb a b (λ q. true≢false (sym (all-from agree 64 (λ i l. ap (λ (x : ℕ). Bool·beq (place a i) (place x i)) (sym q) ∙ beq-same (place a i))) ∙ e)))
+
 -- ---- the lines of a word
 
 -- the line is in either set, or in both
@@ -147,6 +173,10 @@ either r w l = has r l || has w l
 
 abbrev pub both : LineSet → LineSet → ℕ → Bool
 both a b l = has a l && has b l
+
+-- the sets agree about the line
+abbrev pub agree : LineSet → LineSet → ℕ → Bool
+agree a b l = Bool·beq (has a l) (has b l)
 
 -- line 64 k + i is place i of word k
 at-word : (s : LineSet) (k i : ℕ) → i < 64 → has s (64 * k + i) ≡ place (word s k) i
@@ -169,6 +199,13 @@ meets-more a b k t p q =
     ap (any-below _) (let e : 64 * k ≡ 64 * (k - 1) + 64 = omega arith in e) ∙ any-add (both a b) (64 * (k - 1)) 64
     ∙ ap (λ (x : Bool). x || any-below (both a b) (64 * (k - 1)))
     (any-cong _ _ 64 (λ i h. λ j. at-word a (k - 1) i h j && at-word b (k - 1) i h j) ∙ q)
+
+pub same-more : (a b : LineSet) (k : ℕ) (t : Bool) → 0 < k → alike (word a (k - 1)) (word b (k - 1)) ≡ t → all-below (agree a b) (64 * k) ≡ (t && all-below (agree a b) (64 * (k - 1)))
+unfolding alike
+same-more a b k t p q =
+    ap (all-below _) (let e : 64 * k ≡ 64 * (k - 1) + 64 = omega arith in e) ∙ all-add (agree a b) (64 * (k - 1)) 64
+    ∙ ap (λ (x : Bool). x && all-below (agree a b) (64 * (k - 1)))
+    (all-cong _ _ 64 (λ i h. λ j. Bool·beq (at-word a (k - 1) i h j) (at-word b (k - 1) i h j)) ∙ q)
 
 -- ---- what a set holds
 

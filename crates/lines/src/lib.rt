@@ -2,7 +2,7 @@
 ghost use mathlib.Core.Path.{_≡_};
 ghost use Prim.Native.Nat.{_<_};
 ghost use Rattle.base.specs.Limits.{lines};
-ghost use Rattle.lines.specs.Lines.{empty, has, with, meets, footprint, joined, shared};
+ghost use Rattle.lines.specs.Lines.{empty, has, with, meets, same, footprint, joined, shared, alike};
 use base::WORDS;
 
 #[repr(C)]
@@ -56,6 +56,27 @@ pub fn meets(a: LineSet, b: LineSet) -> bool
         }
     }
     false
+}
+
+// Two words have the same places set.
+fn alike(a: u64, b: u64) -> bool
+    ensures { λ r. ⌜ r ≡ alike a b ⌝ }
+{
+    a == b
+}
+
+// Two sets hold the same lines.
+pub fn same(a: LineSet, b: LineSet) -> bool
+    ensures { λ r. ⌜ r ≡ same a b ⌝ }
+{
+    let mut k = WORDS;
+    while 0 < k {
+        k -= 1;
+        if !alike(a.words[k], b.words[k]) {
+            return false;
+        }
+    }
+    true
 }
 
 // How many places are set in either of two words.

@@ -1,8 +1,10 @@
 // The machine: one to four threads over a lent memory (document 01, "The machine").
 pub mod conflict;
+mod held;
 pub mod refusal;
 pub mod step;
 pub mod valid;
+mod zeros;
 
 ghost use mathlib.Core.Path.{_≡_};
 ghost use Rattle.machine.specs.Machine.{fresh};

@@ -1,23 +1,23 @@
 // The valid machine, clause by clause (document 01, "The machine"), for any value of the struct, however broken.
 ghost use mathlib.Core.Path.{_≡_};
-ghost use Prim.Native.Nat.{_<_, _≤_};
-ghost use Rattle.base.specs.Limits.{lines, most-places, most-threads};
-ghost use Rattle.machine.specs.Valid.{memory-sized, sized, place-right, unused-zero, aligned, cr-small, fields-small, no-line, holds-nothing, live-rules, state-rules, indices-inside, line-inside, lines-inside, unlike, distinct, logs-line, line-logged, writes-logged, held-right, thread-valid, zero-gpr, zero-cr, zero-registers, zero-control, zero-thread, clash, clear-of, apart, thread-right, threads-right, valid};
+ghost use mathlib.Core.Bool.{_||_};
+ghost use Prim.Native.Nat.{_<_};
+ghost use Rattle.base.specs.Limits.{most-threads};
+ghost use Rattle.lines.specs.Lines.{meets};
+ghost use Rattle.machine.specs.Valid.{memory-sized, sized, aligned, cr-small, fields-small, live-rules, state-rules, thread-valid, clear-of, apart, thread-right, threads-right, valid};
 use crate::Machine;
+use crate::held;
+use crate::zeros;
 use base::FOOTPRINT;
 use base::LEVELS;
 use base::LINE;
 use base::LINES;
-use base::PLACES;
 use base::THREADS;
-use base::WORDS;
 use lines::LineSet;
 use thread::Control;
 use thread::Registers;
 use thread::State;
 use thread::Thread;
-use transaction::Entry;
-use transaction::Transaction;
 
 fn memory_sized(len: usize) -> bool
     ensures { λ r. ⌜ r ≡ memory-sized len ⌝ }
@@ -42,38 +42,6 @@ pub fn sized(m: Machine, len: usize) -> bool
         return false;
     }
     m.count <= THREADS
-}
-
-// A place of the log is used, or zero.
-fn place_right(e: Entry, n: usize, count: usize) -> bool
-    ensures { λ r. ⌜ r ≡ place-right e n count ⌝ }
-{
-    if n < count {
-        return true;
-    }
-    if e.index != 0 {
-        return false;
-    }
-    e.value == 0
-}
-
-// Unused log places are zero.
-fn unused_zero(x: Transaction) -> bool
-    ensures { λ r. ⌜ r ≡ unused-zero x ⌝ }
-{
-    let count = x.count;
-    if PLACES < count {
-        return false;
-    }
-    let mut n = PLACES;
-    while 0 < n {
-        n -= 1;
-        let e = x.log[n];
-        if !place_right(e, n, count) {
-            return false;
-        }
-    }
-    true
 }
 
 // NIA and TFHAR are multiples of 4.
@@ -114,34 +82,6 @@ fn fields_small(t: Thread) -> bool
     cr_small(checkpoint)
 }
 
-fn no_line(s: LineSet) -> bool
-    ensures { λ r. ⌜ r ≡ no-line s ⌝ }
-{
-    let mut k = WORDS;
-    while 0 < k {
-        k -= 1;
-        if s.words[k] != 0 {
-            return false;
-        }
-    }
-    true
-}
-
-// Sets and log are empty.
-fn holds_nothing(x: Transaction) -> bool
-    ensures { λ r. ⌜ r ≡ holds-nothing x ⌝ }
-{
-    let r = x.reads;
-    if !no_line(r) {
-        return false;
-    }
-    let w = x.writes;
-    if !no_line(w) {
-        return false;
-    }
-    x.count == 0
-}
-
 // What a live transaction asks.
 fn live_rules(t: Thread) -> bool
     ensures { λ r. ⌜ r ≡ live-rules t ⌝ }
@@ -175,7 +115,7 @@ fn state_rules(t: Thread) -> bool
             if k.doomed {
                 return false;
             }
-            holds_nothing(x)
+            held::holds_nothing(x)
         }
         State::T => {
             if k.doomed {
@@ -185,7 +125,7 @@ fn state_rules(t: Thread) -> bool
         }
         State::S => {
             if k.doomed {
-                if !holds_nothing(x) {
+                if !held::holds_nothing(x) {
                     return false;
                 }
                 return thread::failed(k);
@@ -193,146 +133,6 @@ fn state_rules(t: Thread) -> bool
             live_rules(t)
         }
     }
-}
-
-// All indices lie in memory.
-fn indices_inside(x: Transaction, len: usize) -> bool
-    requires { ⌜ x .count ≤ most-places ⌝ }
-    ensures { λ r. ⌜ r ≡ indices-inside x len ⌝ }
-{
-    let mut n = x.count;
-    while 0 < n {
-        n -= 1;
-        let e = x.log[n];
-        if len <= e.index as usize {
-            return false;
-        }
-    }
-    true
-}
-
-// A line lies in memory, or is in neither set.
-fn line_inside(x: Transaction, l: usize, len: usize) -> bool
-    requires { ⌜ l < lines ⌝ }
-    ensures { λ r. ⌜ r ≡ line-inside x l len ⌝ }
-{
-    if l * LINE < len {
-        return true;
-    }
-    let r = x.reads;
-    if lines::has(r, l) {
-        return false;
-    }
-    let w = x.writes;
-    !lines::has(w, l)
-}
-
-// All lines lie in memory.
-fn lines_inside(x: Transaction, len: usize) -> bool
-    ensures { λ r. ⌜ r ≡ lines-inside x len ⌝ }
-{
-    let mut l = LINES;
-    while 0 < l {
-        l -= 1;
-        if !line_inside(x, l, len) {
-            return false;
-        }
-    }
-    true
-}
-
-// The index at a place is none of those before it.
-fn unlike(x: Transaction, n: usize) -> bool
-    requires { ⌜ n < most-places ⌝ }
-    ensures { λ r. ⌜ r ≡ unlike x n ⌝ }
-{
-    let e = x.log[n];
-    let mut k = n;
-    while 0 < k {
-        k -= 1;
-        let f = x.log[k];
-        if f.index == e.index {
-            return false;
-        }
-    }
-    true
-}
-
-// Log indices are distinct.
-fn distinct(x: Transaction) -> bool
-    requires { ⌜ x .count ≤ most-places ⌝ }
-    ensures { λ r. ⌜ r ≡ distinct x ⌝ }
-{
-    let mut n = x.count;
-    while 0 < n {
-        n -= 1;
-        if !unlike(x, n) {
-            return false;
-        }
-    }
-    true
-}
-
-// The log has an index in the line.
-fn logs_line(x: Transaction, l: usize) -> bool
-    requires { ⌜ x .count ≤ most-places ⌝ }
-    ensures { λ r. ⌜ r ≡ logs-line x l ⌝ }
-{
-    let mut n = x.count;
-    while 0 < n {
-        n -= 1;
-        let e = x.log[n];
-        if e.index as usize / LINE == l {
-            return true;
-        }
-    }
-    false
-}
-
-// The line is in the write set exactly when the log has an index in it.
-fn line_logged(x: Transaction, l: usize) -> bool
-    requires { ⌜ x .count ≤ most-places ⌝ }
-    requires { ⌜ l < lines ⌝ }
-    ensures { λ r. ⌜ r ≡ line-logged x l ⌝ }
-{
-    let w = x.writes;
-    if lines::has(w, l) {
-        return logs_line(x, l);
-    }
-    !logs_line(x, l)
-}
-
-fn writes_logged(x: Transaction) -> bool
-    requires { ⌜ x .count ≤ most-places ⌝ }
-    ensures { λ r. ⌜ r ≡ writes-logged x ⌝ }
-{
-    let mut l = LINES;
-    while 0 < l {
-        l -= 1;
-        if !line_logged(x, l) {
-            return false;
-        }
-    }
-    true
-}
-
-// What a transaction holds is right: places, indices, lines.
-fn held_right(x: Transaction, len: usize) -> bool
-    ensures { λ r. ⌜ r ≡ held-right x len ⌝ }
-{
-    if !unused_zero(x) {
-        return false;
-    }
-    if !indices_inside(x, len) {
-        return false;
-    }
-    if !lines_inside(x, len) {
-        return false;
-    }
-    if !distinct(x) {
-        return false;
-    }
-    writes_logged(x)
 }
 
 // A thread record below the count.
@@ -350,113 +150,17 @@ fn thread_valid(t: Thread, len: usize) -> bool
         return false;
     }
     let x = t.transaction;
-    held_right(x, len)
+    held::held_right(x, len)
 }
 
-fn zero_gpr(r: Registers) -> bool
-    ensures { λ b. ⌜ b ≡ zero-gpr r ⌝ }
+// A line of one thread's write set is in another's read set or write set.
+fn clash(a: LineSet, r: LineSet, w: LineSet) -> bool
+    ensures { λ b. ⌜ b ≡ (meets a r || meets a w) ⌝ }
 {
-    let mut i = 32;
-    while 0 < i {
-        i -= 1;
-        if r.gpr[i] != 0 {
-            return false;
-        }
-    }
-    true
-}
-
-fn zero_cr(r: Registers) -> bool
-    ensures { λ b. ⌜ b ≡ zero-cr r ⌝ }
-{
-    let mut f = 7;
-    while 0 < f {
-        f -= 1;
-        if r.cr[f] != 0 {
-            return false;
-        }
-    }
-    true
-}
-
-fn zero_registers(r: Registers) -> bool
-    ensures { λ b. ⌜ b ≡ zero-registers r ⌝ }
-{
-    if !zero_gpr(r) {
-        return false;
-    }
-    zero_cr(r)
-}
-
-fn zero_control(k: Control) -> bool
-    ensures { λ r. ⌜ r ≡ zero-control k ⌝ }
-{
-    if k.nia != 0 {
-        return false;
-    }
-    if k.pr {
-        return false;
-    }
-    if k.tm {
-        return false;
-    }
-    if k.doomed {
-        return false;
-    }
-    if k.tfhar != 0 {
-        return false;
-    }
-    if k.tfiar != 0 {
-        return false;
-    }
-    if k.texasr != 0 {
-        return false;
-    }
-    let s = k.state;
-    match s {
-        State::N => true,
-        State::T => false,
-        State::S => false,
-    }
-}
-
-// A thread record past the count: all zero.
-fn zero_thread(t: Thread) -> bool
-    ensures { λ r. ⌜ r ≡ zero-thread t ⌝ }
-{
-    let live = t.live;
-    if !zero_registers(live) {
-        return false;
-    }
-    if t.cr0 != 0 {
-        return false;
-    }
-    let checkpoint = t.checkpoint;
-    if !zero_registers(checkpoint) {
-        return false;
-    }
-    let k = t.control;
-    if !zero_control(k) {
-        return false;
-    }
-    let x = t.transaction;
-    if !holds_nothing(x) {
-        return false;
-    }
-    unused_zero(x)
-}
-
-// A line of one transaction's write set is in the other's sets.
-fn clash(x: Transaction, y: Transaction) -> bool
-    ensures { λ r. ⌜ r ≡ clash x y ⌝ }
-{
-    let w = x.writes;
-    let r = y.reads;
-    if lines::meets(w, r) {
+    if lines::meets(a, r) {
         return true;
     }
-    let v = y.writes;
-    lines::meets(w, v)
+    lines::meets(a, w)
 }
 
 // No other thread's sets have a line of thread v's write set.
@@ -465,14 +169,15 @@ fn clear_of(m: Machine, v: usize) -> bool
     ensures { λ r. ⌜ r ≡ clear-of m v ⌝ }
 {
     let t = m.threads[v];
-    let x = t.transaction;
-    let mut w = THREADS;
-    while 0 < w {
-        w -= 1;
-        let u = m.threads[w];
-        let y = u.transaction;
-        if v != w {
-            if clash(x, y) {
+    let a = t.transaction.writes;
+    let mut u = THREADS;
+    while 0 < u {
+        u -= 1;
+        if v != u {
+            let o = m.threads[u];
+            let r = o.transaction.reads;
+            let w = o.transaction.writes;
+            if clash(a, r, w) {
                 return false;
             }
         }
@@ -502,7 +207,7 @@ fn thread_right(m: Machine, len: usize, w: usize) -> bool
     if w < m.count {
         return thread_valid(t, len);
     }
-    zero_thread(t)
+    zeros::zero_thread(t)
 }
 
 fn threads_right(m: Machine, len: usize) -> bool

@@ -1,6 +1,6 @@
 -- `host::entries::machine_number` meets its contract.
 use mathlib.Core.Path.{sym, _∙_}
-use Rattle.machine.proofs.Laws.{flag-true, flag-false}
+use Rattle.base.proofs.Below.{flag-true, flag-false}
 use Rattle.host.specs.Host.{machine-number}
 use borrow.Author.Needs.{needs}
 use Rattle.host.proofs.entries.machine_number.Statement.{statement}

@@ -1,6 +1,6 @@
 -- `host::entries::naszeptan_step` meets its contract.
 use mathlib.Core.Path.{sym, _∙_}
-use Rattle.machine.proofs.Laws.{flag-true, flag-false}
+use Rattle.base.proofs.Below.{flag-true, flag-false}
 use Rattle.host.specs.Host.{step}
 use borrow.Author.Needs.{needs}
 use Rattle.host.proofs.entries.naszeptan_step.Statement.{statement}

@@ -1,7 +1,7 @@
 -- `machine::step::step` meets its contract.
 use mathlib.Core.Path.{refl, sym, ap}
+use Rattle.base.proofs.Below.{flag-true, flag-false}
 use Rattle.machine.specs.Refusal.{refusal}
-use Rattle.machine.proofs.Laws.{flag-true, flag-false}
 use Rattle.machine.proofs.Validity.{step-refused}
 use borrow.Author.Needs.{needs}
 use Rattle.machine.proofs.step.step.Statement.{statement}

@@ -1,7 +1,6 @@
--- `machine::valid::clash` meets its contract: its tests are the definition's.
+-- `machine::valid::clash` meets its contract: its tests are those of the expression.
 use borrow.Author.Needs.{needs}
 use mathlib.Core.Path.{sym, _∙_}
-use Rattle.machine.specs.Valid.{clash}
 use Rattle.machine.proofs.valid.clash.Statement.{statement}
 use Rattle.machine.proofs.valid.clash.Tie as tie
 
@@ -9,15 +8,13 @@ meets-requires : tie.Need-meets-requires
 meets-requires c κs = search needs
 
 returns : tie.Need-returns
-unfolding clash
 returns c = simp (sym (c .before .meets .ensures) ∙ c .if1 .taken)
 
 meets-requires-2 : tie.Need-meets-requires-2
 meets-requires-2 c κs = search needs
 
 returns-2 : tie.Need-returns-2
-unfolding clash
-returns-2 c = simp (c .meets2 .ensures, sym (c .before .before .before .meets .ensures) ∙ c .before .before .if1 .left)
+returns-2 c = simp (c .meets2 .ensures, sym (c .before .before .meets .ensures) ∙ c .before .if1 .left)
 
 pub clash-spec : {M : Type 1} → statement M
 clash-spec = tie.close (tie.spec meets-requires returns meets-requires-2 returns-2)

@@ -7,8 +7,8 @@ use native.Mathlib.Omega.{arith}
 use lib.Dec.{ltb}
 use lib.ListN.{getD}
 use Rattle.base.specs.Below.{all-below}
+use Rattle.base.proofs.Below.{all-fails, all-passes, all-passed}
 use Rattle.machine.specs.Valid.{cr-small}
-use Rattle.machine.proofs.Laws.{all-fails, all-passes, all-passed}
 use Rattle.machine.proofs.valid.cr_small.Statement.{statement}
 use Rattle.machine.proofs.valid.cr_small.Tie as tie
 

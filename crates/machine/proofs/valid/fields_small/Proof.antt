@@ -1,8 +1,8 @@
 -- `machine::valid::fields_small` meets its contract: its tests are the definition's.
 use borrow.Author.Needs.{needs}
 use borrow.Author.Tests.{le-ltb, lt-ltb}
+use Rattle.base.proofs.Below.{flag-true, flag-false}
 use Rattle.machine.specs.Valid.{fields-small}
-use Rattle.machine.proofs.Laws.{flag-true, flag-false}
 use Rattle.machine.proofs.valid.fields_small.Statement.{statement}
 use Rattle.machine.proofs.valid.fields_small.Tie as tie
 

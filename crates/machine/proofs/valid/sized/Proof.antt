@@ -1,8 +1,8 @@
 -- `machine::valid::sized` meets its contract: its tests are the definition's.
 use borrow.Author.Needs.{needs}
 use borrow.Author.Tests.{le-leb, lt-leb}
+use Rattle.base.proofs.Below.{flag-true, flag-false}
 use Rattle.machine.specs.Valid.{sized}
-use Rattle.machine.proofs.Laws.{flag-true, flag-false}
 use Rattle.machine.proofs.valid.sized.Statement.{statement}
 use Rattle.machine.proofs.valid.sized.Tie as tie
 

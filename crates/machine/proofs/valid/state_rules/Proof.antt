@@ -1,7 +1,7 @@
 -- `machine::valid::state_rules` meets its contract: in each state its tests are the definition's.
 use borrow.Author.Needs.{needs}
+use Rattle.base.proofs.Below.{flag-true, flag-false}
 use Rattle.machine.specs.Valid.{state-rules}
-use Rattle.machine.proofs.Laws.{flag-true, flag-false}
 use Rattle.machine.proofs.valid.state_rules.Statement.{statement}
 use Rattle.machine.proofs.valid.state_rules.Tie as tie
 

@@ -2,9 +2,9 @@
 use borrow.Author.Needs.{needs}
 use mathlib.Core.Path.{_≡_}
 use mathlib.Core.Bool.{true}
-use Rattle.base.proofs.Below.{length-parts}
+use Rattle.base.proofs.Below.{length-parts, flag-true, flag-false}
 use Rattle.machine.specs.Valid.{thread-valid, shaped}
-use Rattle.machine.proofs.Laws.{shaped-from, flag-true, flag-false}
+use Rattle.machine.proofs.Laws.{shaped-from}
 use Rattle.machine.proofs.valid.thread_valid.Statement.{statement}
 use Rattle.machine.proofs.valid.thread_valid.Tie as tie
 

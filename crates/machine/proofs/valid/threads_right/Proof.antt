@@ -5,8 +5,8 @@ use Prim.Native.Nat.{_≤_}
 use native.Mathlib.Omega.{arith}
 use Rattle.base.specs.Below.{all-below}
 use Rattle.base.specs.Limits.{most-threads}
+use Rattle.base.proofs.Below.{all-fails, all-passes, all-passed, flag-true, flag-false}
 use Rattle.machine.specs.Valid.{threads-right, thread-right}
-use Rattle.machine.proofs.Laws.{all-fails, all-passes, all-passed, flag-true, flag-false}
 use Rattle.machine.proofs.valid.threads_right.Statement.{statement}
 use Rattle.machine.proofs.valid.threads_right.Tie as tie
 

@@ -6,9 +6,8 @@ use mathlib.Core.Bool.{true}
 use lib.Dec.{eqb}
 use lib.ListN.{length}
 use Rattle.base.specs.Limits.{most-threads}
-use Rattle.base.proofs.Below.{length-parts}
+use Rattle.base.proofs.Below.{length-parts, flag-true, flag-false}
 use Rattle.machine.specs.Valid.{valid}
-use Rattle.machine.proofs.Laws.{flag-true, flag-false}
 use Rattle.machine.proofs.valid.valid.Statement.{statement}
 use Rattle.machine.proofs.valid.valid.Tie as tie
 

@@ -1,0 +1,20 @@
+-- `machine::held::place_right` meets its contract: its tests are the definition's.
+use borrow.Author.Tests.{eq-eqb, le-ltb, lt-ltb, ne-eqb}
+use Rattle.machine.specs.Valid.{place-right}
+use Rattle.machine.proofs.held.place_right.Statement.{statement}
+use Rattle.machine.proofs.held.place_right.Tie as tie
+
+returns : tie.Need-returns
+unfolding place-right
+returns c = simp (lt-ltb _ _ (c .if1 .taken))
+
+returns-2 : tie.Need-returns-2
+unfolding place-right
+returns-2 c = simp (ne-eqb _ _ (c .if2 .taken), le-ltb _ _ (c .before .before .if1 .left))
+
+returns-3 : tie.Need-returns-3
+unfolding place-right
+returns-3 c = rw (le-ltb _ _ (c .before .before .before .if1 .left), eq-eqb _ _ (c .before .if2 .left))
+
+pub place-right-spec : {M : Type 1} → statement M
+place-right-spec = tie.close (tie.spec returns returns-2 returns-3)

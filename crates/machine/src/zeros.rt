@@ -1,0 +1,101 @@
+// A thread record past the count: all zero (document 01, "The machine").
+ghost use mathlib.Core.Path.{_≡_};
+ghost use Rattle.machine.specs.Valid.{zero-gpr, zero-cr, zero-registers, zero-control, zero-thread};
+use crate::held;
+use thread::Control;
+use thread::Registers;
+use thread::State;
+use thread::Thread;
+
+fn zero_gpr(r: Registers) -> bool
+    ensures { λ b. ⌜ b ≡ zero-gpr r ⌝ }
+{
+    let mut i = 32;
+    while 0 < i {
+        i -= 1;
+        if r.gpr[i] != 0 {
+            return false;
+        }
+    }
+    true
+}
+
+fn zero_cr(r: Registers) -> bool
+    ensures { λ b. ⌜ b ≡ zero-cr r ⌝ }
+{
+    let mut f = 7;
+    while 0 < f {
+        f -= 1;
+        if r.cr[f] != 0 {
+            return false;
+        }
+    }
+    true
+}
+
+fn zero_registers(r: Registers) -> bool
+    ensures { λ b. ⌜ b ≡ zero-registers r ⌝ }
+{
+    if !zero_gpr(r) {
+        return false;
+    }
+    zero_cr(r)
+}
+
+fn zero_control(k: Control) -> bool
+    ensures { λ r. ⌜ r ≡ zero-control k ⌝ }
+{
+    if k.nia != 0 {
+        return false;
+    }
+    if k.pr {
+        return false;
+    }
+    if k.tm {
+        return false;
+    }
+    if k.doomed {
+        return false;
+    }
+    if k.tfhar != 0 {
+        return false;
+    }
+    if k.tfiar != 0 {
+        return false;
+    }
+    if k.texasr != 0 {
+        return false;
+    }
+    let s = k.state;
+    match s {
+        State::N => true,
+        State::T => false,
+        State::S => false,
+    }
+}
+
+// A thread record past the count: all zero.
+pub fn zero_thread(t: Thread) -> bool
+    ensures { λ r. ⌜ r ≡ zero-thread t ⌝ }
+{
+    let live = t.live;
+    if !zero_registers(live) {
+        return false;
+    }
+    if t.cr0 != 0 {
+        return false;
+    }
+    let checkpoint = t.checkpoint;
+    if !zero_registers(checkpoint) {
+        return false;
+    }
+    let k = t.control;
+    if !zero_control(k) {
+        return false;
+    }
+    let x = t.transaction;
+    if !held::holds_nothing(x) {
+        return false;
+    }
+    held::unused_zero(x)
+}

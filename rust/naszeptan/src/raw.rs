@@ -1,0 +1,263 @@
+//! The C header `naszeptan.h` in Rust: the same structs, bit for bit, and the
+//! seven functions.
+//!
+//! The functions are safe. The proved code takes any bits: what is no
+//! machine, no event or no record is refused by a number, and then nothing is
+//! changed. Use this module to hand in such bits, or to keep a machine in the
+//! archive's own form between calls; for everything else the typed layer of
+//! the [crate root](crate) is shorter.
+//!
+//! ```
+//! use naszeptan::raw;
+//!
+//! let mut machine = raw::fresh();
+//! machine.threads[2].control.state = 7; // no state at all
+//! assert_eq!(raw::valid(machine, raw::MEMORY), 2);
+//!
+//! let mut memory = [5; 16];
+//! let begin = raw::Event { kind: 1, ..raw::Event::default() };
+//! let done = raw::step(machine, &mut memory, begin);
+//! assert_eq!(done.answer, 2);
+//! assert_eq!(done.machine, machine);
+//! assert_eq!(memory, [5; 16]);
+//! ```
+
+use crate::sys;
+
+/// Thread records of a machine.
+pub const THREADS: usize = 4;
+/// General registers of a thread.
+pub const GPRS: usize = 32;
+/// CR fields 1 to 7; CR0 stands apart.
+pub const CR_FIELDS: usize = 7;
+/// Words of a line set: 256 lines.
+pub const LINE_WORDS: usize = 4;
+/// Doublewords of a line.
+pub const LINE: usize = 16;
+/// Doublewords of the largest memory.
+pub const MEMORY: usize = 4096;
+/// Places of a transaction's log.
+pub const PLACES: usize = 64;
+/// Bytes of a tape record.
+pub const RECORD_SIZE: usize = 16;
+/// The first byte of each record.
+pub const FIRST_BYTE: u8 = 0xE3;
+
+/// The version of the rules that this crate was written for: the model's
+/// version in the upper 16 bits, the change requests that have landed in the
+/// lower. [`version`] gives the archive's.
+pub const VERSION: u32 = 0x0004_0000;
+
+/// The registers that a checkpoint keeps.
+#[repr(C)]
+#[derive(Clone, Copy, Debug, Default, PartialEq, Eq, Hash)]
+pub struct Registers {
+    /// General registers 0 to 31.
+    pub gpr: [u64; GPRS],
+    /// `cr[n - 1]` is CR field n, 1 to 7.
+    pub cr: [u8; CR_FIELDS],
+}
+
+/// A set of lines.
+///
+/// ```
+/// use naszeptan::LineSet;
+///
+/// let mut lines: LineSet = [3, 200].into_iter().collect();
+/// assert!(lines.contains(200));
+/// lines.remove(3);
+/// assert_eq!(lines.iter().collect::<Vec<_>>(), [200]);
+/// assert_eq!(format!("{lines:?}"), "{200}");
+/// ```
+#[repr(C)]
+#[derive(Clone, Copy, Default, PartialEq, Eq, Hash)]
+pub struct Lines {
+    /// The 256 bits: line l is bit l % 64 of `words[l / 64]`, bit 0 the
+    /// lowest.
+    pub words: [u64; LINE_WORDS],
+}
+
+/// One logged store.
+#[repr(C)]
+#[derive(Clone, Copy, Debug, Default, PartialEq, Eq, Hash)]
+pub struct Entry {
+    /// The doubleword's index in memory.
+    pub index: u32,
+    /// The value that a commit would put there.
+    pub value: u64,
+}
+
+/// What a transaction has read and written.
+///
+/// ```
+/// use naszeptan::{Answer, Event, Machine};
+///
+/// let mut machine = Machine::fresh();
+/// let mut memory = vec![0; 4096];
+/// assert_eq!(machine.step(&mut memory, 0, Event::Tbegin { r: false }), Answer::Done);
+/// assert_eq!(machine.step(&mut memory, 0, Event::Ld { rt: 3, index: 16 }), Answer::Done);
+/// assert_eq!(machine.step(&mut memory, 0, Event::Std { ra: 4, index: 33 }), Answer::Done);
+///
+/// let transaction = &machine.threads[0].transaction;
+/// assert!(transaction.reads.contains(1));
+/// assert!(transaction.writes.contains(2));
+/// assert_eq!(transaction.footprint(), 2);
+/// assert_eq!(transaction.logged(33), Some(0));
+/// assert_eq!(transaction.entries().len(), 1);
+/// ```
+#[repr(C)]
+#[derive(Clone, Copy, PartialEq, Eq, Hash)]
+pub struct Transaction {
+    /// The read set.
+    pub reads: Lines,
+    /// The write set.
+    pub writes: Lines,
+    /// How many places of the log are used.
+    pub count: usize,
+    /// The log, in order of first store. Places past `count` are 0.
+    pub log: [Entry; PLACES],
+}
+
+/// The rest of a thread's record beside its registers and transaction.
+#[repr(C)]
+#[derive(Clone, Copy, Debug, Default, PartialEq, Eq, Hash)]
+pub struct Control {
+    /// Next instruction address.
+    pub nia: u64,
+    /// 1 = problem state; other than 0 and 1 is no machine.
+    pub pr: u8,
+    /// 1 = facility on; other than 0 and 1 is no machine.
+    pub tm: u8,
+    /// 0 = N, 1 = T, 2 = S; anything else is no machine.
+    pub state: u8,
+    /// TDOOMED; other than 0 and 1 is no machine.
+    pub doomed: u8,
+    /// Where handling goes on.
+    pub tfhar: u64,
+    /// Where the failure was.
+    pub tfiar: u64,
+    /// TEXASR, its bit 0 the highest of the 64.
+    pub texasr: u64,
+}
+
+/// One thread's record.
+#[repr(C)]
+#[derive(Clone, Copy, Debug, Default, PartialEq, Eq, Hash)]
+pub struct Thread {
+    /// The live registers, but for CR0.
+    pub live: Registers,
+    /// CR field 0.
+    pub cr0: u8,
+    /// The checkpoint, which has no CR0.
+    pub checkpoint: Registers,
+    /// NIA, PR, TM, state, TDOOMED and the three special registers.
+    pub control: Control,
+    /// Read set, write set and log.
+    pub transaction: Transaction,
+}
+
+/// A machine: the first `count` of the records are its threads.
+#[repr(C)]
+#[derive(Clone, Copy, Debug, Default, PartialEq, Eq, Hash)]
+pub struct Machine {
+    /// How many threads there are, 1 to 4.
+    pub count: usize,
+    /// The records; those past `count` are 0.
+    pub threads: [Thread; THREADS],
+}
+
+/// One event and the thread that executes it. `kind`, 1 to 17, says what the
+/// other fields mean; a field that its kind does not use must be 0.
+#[repr(C)]
+#[derive(Clone, Copy, Debug, Default, PartialEq, Eq, Hash)]
+pub struct Event {
+    /// The number of the event's kind.
+    pub kind: u8,
+    /// The thread.
+    pub thread: u8,
+    /// SPR, BF or TO, else RT.
+    pub x: u8,
+    /// RA; for mfspr, RT.
+    pub ra: u8,
+    /// RB.
+    pub rb: u8,
+    /// R, A or L; for kind 17, PR + 2 * TM.
+    pub flags: u8,
+    /// The doubleword of a load or store.
+    pub index: u32,
+    /// SI, as its 16 bits.
+    pub si: u16,
+}
+
+/// A step's answer, and the machine after it.
+#[repr(C)]
+#[derive(Clone, Copy, Debug, PartialEq, Eq)]
+pub struct Done {
+    /// The number given back.
+    pub answer: u8,
+    /// The machine handed in, if the event was refused.
+    pub machine: Machine,
+}
+
+/// How a run ended.
+#[repr(C)]
+#[derive(Clone, Copy, Debug, PartialEq, Eq)]
+pub struct Ended {
+    /// The answer that ended the run; 0 at the tape's end.
+    pub answer: u8,
+    /// How many records were done.
+    pub count: usize,
+    /// The machine after exactly those.
+    pub machine: Machine,
+}
+
+/// A reader's answer: 0 and the event, or 6 to 9 and an event of zeros.
+#[repr(C)]
+#[derive(Clone, Copy, Debug, PartialEq, Eq)]
+pub struct Record {
+    /// The number given back.
+    pub answer: u8,
+    /// The event, if the answer is 0.
+    pub event: Event,
+}
+
+/// The version of the rules that the archive keeps; compare it with
+/// [`VERSION`].
+pub fn version() -> u32 {
+    sys::version()
+}
+
+/// The fresh machine: four threads, Non-transactional, PR = 1, TM = 1, all
+/// else 0. Its memory, 4,096 doublewords of 0, is the caller's to lend.
+pub fn fresh() -> Machine {
+    sys::fresh()
+}
+
+/// Whether these bits are a machine over a memory of `len` doublewords: 0, or
+/// 1 (memory length or thread count), or 2 (not a valid machine).
+pub fn valid(machine: Machine, len: usize) -> u8 {
+    sys::valid(machine, len)
+}
+
+/// One event. Refused by 1, 2, 8, 9, 3, 4, 5, 11, 12, 13: the first that
+/// applies in this order.
+pub fn step(machine: Machine, memory: &mut [u64], event: Event) -> Done {
+    sys::step(machine, memory, event)
+}
+
+/// A tape, record by record, until one is refused or the tape ends. Refused
+/// as a whole by 1, 2 and 6, also where the tape is empty.
+pub fn run(machine: Machine, memory: &mut [u64], tape: &[u8]) -> Ended {
+    sys::run(machine, memory, tape)
+}
+
+/// One record of 16 bytes as an event. Refused by 6, 7, 8, 9 in this order.
+pub fn read(record: &[u8]) -> Record {
+    sys::read(record)
+}
+
+/// One event as a record, in the buffer's first 16 bytes. Refused by 8, 9, 10
+/// in this order.
+pub fn write(event: Event, buffer: &mut [u8]) -> u8 {
+    sys::write(event, buffer)
+}

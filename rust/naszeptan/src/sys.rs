@@ -1,0 +1,69 @@
+//! The seven functions of the archive. All `unsafe` of the crate is here.
+//!
+//! The header asks one thing of a caller: that a pointer with its length
+//! names elements which the call may use alone. A Rust slice is just that, and
+//! any other bits may be handed in; so each function here is safe.
+
+use crate::raw::{Done, Ended, Event, Machine, Record};
+
+extern "C" {
+    fn naszeptan_version() -> u32;
+    fn naszeptan_fresh() -> Machine;
+    fn naszeptan_valid(machine: Machine, len: usize) -> u8;
+    fn naszeptan_step(machine: Machine, memory: *mut u64, len: usize, event: Event) -> Done;
+    fn naszeptan_run(
+        machine: Machine,
+        memory: *mut u64,
+        len: usize,
+        tape: *const u8,
+        bytes: usize,
+    ) -> Ended;
+    fn naszeptan_read(record: *const u8, bytes: usize) -> Record;
+    fn naszeptan_write(event: Event, buffer: *mut u8, bytes: usize) -> u8;
+}
+
+pub(crate) fn version() -> u32 {
+    // SAFETY: takes nothing, touches no memory of ours.
+    unsafe { naszeptan_version() }
+}
+
+pub(crate) fn fresh() -> Machine {
+    // SAFETY: takes nothing; every field of the answer is an integer.
+    unsafe { naszeptan_fresh() }
+}
+
+pub(crate) fn valid(machine: Machine, len: usize) -> u8 {
+    // SAFETY: takes its machine by value, and any bits may be a machine's.
+    unsafe { naszeptan_valid(machine, len) }
+}
+
+pub(crate) fn step(machine: Machine, memory: &mut [u64], event: Event) -> Done {
+    // SAFETY: pointer and length are those of one slice, borrowed for the
+    // call by it alone; machine and event go by value and may be any bits.
+    unsafe { naszeptan_step(machine, memory.as_mut_ptr(), memory.len(), event) }
+}
+
+pub(crate) fn run(machine: Machine, memory: &mut [u64], tape: &[u8]) -> Ended {
+    // SAFETY: as for `step`; the tape is a slice of its own, only read, and
+    // cannot overlap the memory, which is borrowed by the call alone.
+    unsafe {
+        naszeptan_run(
+            machine,
+            memory.as_mut_ptr(),
+            memory.len(),
+            tape.as_ptr(),
+            tape.len(),
+        )
+    }
+}
+
+pub(crate) fn read(record: &[u8]) -> Record {
+    // SAFETY: pointer and length are those of one slice, only read.
+    unsafe { naszeptan_read(record.as_ptr(), record.len()) }
+}
+
+pub(crate) fn write(event: Event, buffer: &mut [u8]) -> u8 {
+    // SAFETY: pointer and length are those of one slice, borrowed for the
+    // call by it alone; the event goes by value and may be any bits.
+    unsafe { naszeptan_write(event, buffer.as_mut_ptr(), buffer.len()) }
+}

@@ -1,0 +1,280 @@
+//! TEXASR, and the failure that it tells of.
+
+use std::fmt;
+
+/// A TEXASR value: the model's, or one read on hardware to compare with it
+/// (document 01, "TEXASR").
+///
+/// The register may hold any bits, since mtspr writes it whole. So nothing
+/// here can fail: a pattern that no recording leaves is told as it is.
+///
+/// Displayed, it is one line: cause, level TL, then the other fields.
+///
+/// ```
+/// use naszeptan::{Cause, Texasr};
+///
+/// let texasr = Texasr(0xA500_0001_1C00_0001);
+/// let failure = texasr.failure().unwrap();
+/// assert_eq!(failure.cause, Cause::Abort);
+/// assert_eq!(failure.code, 0xA5);
+/// assert!(failure.persistent());
+/// assert_eq!(
+///     texasr.to_string(),
+///     "abort, level 1, exact=1, suspended=0, PR=1, ROT=0, code 0xA5 (persistent)"
+/// );
+/// assert_eq!(Texasr(0x0200_0001).to_string(), "no failure, level 1, ROT=1");
+/// ```
+#[derive(Clone, Copy, Default, PartialEq, Eq, PartialOrd, Ord, Hash)]
+#[repr(transparent)]
+pub struct Texasr(
+    /// The 64 bits. Bit 0 of document 01 is the highest.
+    pub u64,
+);
+
+/// Why a transaction failed: bits 8 to 31 of TEXASR.
+#[derive(Clone, Copy, Debug, PartialEq, Eq, Hash)]
+pub enum Cause {
+    /// Bit 8: a disallowed instruction.
+    Disallowed,
+    /// Bit 9: a tbegin. at the highest level.
+    NestingOverflow,
+    /// Bit 10: too many lines, or too many logged stores.
+    FootprintOverflow,
+    /// Bit 11: the thread's own store in Suspended state.
+    SelfInducedConflict,
+    /// Bit 12: another thread's access outside a transaction.
+    NonTransactionalConflict,
+    /// Bit 13: another thread's access in a transaction.
+    TransactionConflict,
+    /// Bit 14: a translation was invalidated. No event of the model does it.
+    TranslationInvalidation,
+    /// Bit 31: tabort., tabortwc., tabortdc. or treclaim.; see
+    /// [`Failure::code`].
+    Abort,
+    /// Bits 8 to 31, the lowest being bit 31, where they are not just one of
+    /// the bits above: none, several, or one that document 01 does not name.
+    Other(u32),
+}
+
+/// A recorded failure: what TEXASR says where its FS = 1.
+///
+/// ```
+/// use naszeptan::{Cause, Failure, Texasr};
+///
+/// let failure = Texasr(0x0008_0000_1800_0001).failure();
+/// assert_eq!(
+///     failure,
+///     Some(Failure {
+///         cause: Cause::NonTransactionalConflict,
+///         code: 0,
+///         suspended: false,
+///         hv: false,
+///         pr: true,
+///         exact: false,
+///         rot: false,
+///         level: 1,
+///     })
+/// );
+/// ```
+#[derive(Clone, Copy, Debug, PartialEq, Eq, Hash)]
+pub struct Failure {
+    /// Bits 8 to 31: why.
+    pub cause: Cause,
+    /// Bits 0 to 7: the failure code, which an abort takes from a register.
+    pub code: u8,
+    /// Bit 32: recorded in Suspended state.
+    pub suspended: bool,
+    /// Bit 34: recorded in hypervisor state. The model never sets it.
+    pub hv: bool,
+    /// Bit 35: recorded in problem state.
+    pub pr: bool,
+    /// Bit 37: TFIAR is the address of the instruction that failed. 0 where
+    /// another thread's event is the cause.
+    pub exact: bool,
+    /// Bit 38: a rollback-only transaction.
+    pub rot: bool,
+    /// Bits 52 to 63: the level TL at which it failed.
+    pub level: u16,
+}
+
+/// FS, bit 36.
+const FS: u64 = 1 << (63 - 36);
+/// ROT and TL: all that TEXASR holds while a transaction has not failed.
+const ROT_AND_LEVEL: u64 = 1 << (63 - 38) | 0xFFF;
+/// The bits that document 01 names: 0:14, 31, 32, 34:38, 52:63.
+const NAMED: u64 = 0xFFFE_0001_BE00_0FFF;
+
+impl Texasr {
+    /// Bit `n`, 0 to 63, where bit 0 is the highest.
+    ///
+    /// # Panics
+    ///
+    /// If `n` is above 63.
+    pub const fn bit(self, n: u32) -> bool {
+        assert!(n < 64, "TEXASR has bits 0 to 63");
+        self.0 >> (63 - n) & 1 != 0
+    }
+
+    /// Bits 0 to 7: the failure code.
+    pub const fn code(self) -> u8 {
+        (self.0 >> 56) as u8
+    }
+
+    /// Bit 7, the lowest of the failure code: the failure is said to last.
+    pub const fn persistent(self) -> bool {
+        self.bit(7)
+    }
+
+    /// Bits 8 to 31: the cause, whatever FS says.
+    pub const fn cause(self) -> Cause {
+        match (self.0 >> 32) as u32 & 0x00FF_FFFF {
+            0x0080_0000 => Cause::Disallowed,
+            0x0040_0000 => Cause::NestingOverflow,
+            0x0020_0000 => Cause::FootprintOverflow,
+            0x0010_0000 => Cause::SelfInducedConflict,
+            0x0008_0000 => Cause::NonTransactionalConflict,
+            0x0004_0000 => Cause::TransactionConflict,
+            0x0002_0000 => Cause::TranslationInvalidation,
+            0x0000_0001 => Cause::Abort,
+            bits => Cause::Other(bits),
+        }
+    }
+
+    /// Bit 32: recorded in Suspended state.
+    pub const fn suspended(self) -> bool {
+        self.bit(32)
+    }
+
+    /// Bit 34: recorded in hypervisor state.
+    pub const fn hv(self) -> bool {
+        self.bit(34)
+    }
+
+    /// Bit 35: recorded in problem state.
+    pub const fn pr(self) -> bool {
+        self.bit(35)
+    }
+
+    /// Bit 36, FS: a failure is recorded.
+    pub const fn failed(self) -> bool {
+        self.0 & FS != 0
+    }
+
+    /// Bit 37: TFIAR is exact.
+    pub const fn exact(self) -> bool {
+        self.bit(37)
+    }
+
+    /// Bit 38: the transaction is rollback-only.
+    pub const fn rot(self) -> bool {
+        self.bit(38)
+    }
+
+    /// Bits 52 to 63: the level TL.
+    pub const fn level(self) -> u16 {
+        (self.0 & 0xFFF) as u16
+    }
+
+    /// The bits set that document 01 does not name.
+    pub const fn unnamed(self) -> u64 {
+        self.0 & !NAMED
+    }
+
+    /// The failure, if FS = 1.
+    pub const fn failure(self) -> Option<Failure> {
+        if !self.failed() {
+            return None;
+        }
+        Some(Failure {
+            cause: self.cause(),
+            code: self.code(),
+            suspended: self.suspended(),
+            hv: self.hv(),
+            pr: self.pr(),
+            exact: self.exact(),
+            rot: self.rot(),
+            level: self.level(),
+        })
+    }
+}
+
+impl Failure {
+    /// The code's lowest bit, bit 7 of TEXASR: the failure is said to last.
+    pub const fn persistent(&self) -> bool {
+        self.code & 1 != 0
+    }
+}
+
+impl From<u64> for Texasr {
+    fn from(bits: u64) -> Texasr {
+        Texasr(bits)
+    }
+}
+
+impl From<Texasr> for u64 {
+    fn from(texasr: Texasr) -> u64 {
+        texasr.0
+    }
+}
+
+impl fmt::Debug for Texasr {
+    fn fmt(&self, f: &mut fmt::Formatter<'_>) -> fmt::Result {
+        write!(f, "Texasr(0x{:016X})", self.0)
+    }
+}
+
+impl fmt::Display for Texasr {
+    fn fmt(&self, f: &mut fmt::Formatter<'_>) -> fmt::Result {
+        let rest = match self.failure() {
+            Some(failure) => {
+                write!(f, "{failure}")?;
+                // Those of the upper half are told by `Cause::Other`.
+                self.unnamed() & 0xFFFF_FFFF
+            }
+            None => {
+                let rot = u8::from(self.rot());
+                write!(f, "no failure, level {}, ROT={rot}", self.level())?;
+                self.0 & !ROT_AND_LEVEL
+            }
+        };
+        match rest {
+            0 => Ok(()),
+            _ => write!(f, ", other bits 0x{rest:016X}"),
+        }
+    }
+}
+
+impl fmt::Display for Failure {
+    fn fmt(&self, f: &mut fmt::Formatter<'_>) -> fmt::Result {
+        write!(f, "{}, level {}", self.cause, self.level)?;
+        write!(f, ", exact={}", u8::from(self.exact))?;
+        write!(f, ", suspended={}", u8::from(self.suspended))?;
+        if self.hv {
+            f.write_str(", HV=1")?;
+        }
+        write!(f, ", PR={}", u8::from(self.pr))?;
+        write!(f, ", ROT={}", u8::from(self.rot))?;
+        write!(f, ", code 0x{:02X}", self.code)?;
+        if self.persistent() {
+            f.write_str(" (persistent)")?;
+        }
+        Ok(())
+    }
+}
+
+impl fmt::Display for Cause {
+    fn fmt(&self, f: &mut fmt::Formatter<'_>) -> fmt::Result {
+        f.write_str(match self {
+            Cause::Disallowed => "disallowed instruction",
+            Cause::NestingOverflow => "nesting overflow",
+            Cause::FootprintOverflow => "footprint overflow",
+            Cause::SelfInducedConflict => "self-induced conflict",
+            Cause::NonTransactionalConflict => "non-transactional conflict",
+            Cause::TransactionConflict => "transaction conflict",
+            Cause::TranslationInvalidation => "translation invalidation",
+            Cause::Abort => "abort",
+            Cause::Other(0) => "no cause",
+            Cause::Other(bits) => return write!(f, "no single cause (bits 8:31 are 0x{bits:06X})"),
+        })
+    }
+}

@@ -1,0 +1,109 @@
+//! What the line sets and the log of a transaction can be asked.
+
+use std::fmt;
+
+use crate::raw::{Entry, Lines, Transaction, PLACES};
+
+impl Lines {
+    /// The set of no lines.
+    pub const EMPTY: Lines = Lines { words: [0; 4] };
+
+    /// Whether a line is in the set.
+    pub const fn contains(&self, line: u8) -> bool {
+        self.words[line as usize / 64] >> (line % 64) & 1 != 0
+    }
+
+    /// Adds a line.
+    pub fn insert(&mut self, line: u8) {
+        self.words[line as usize / 64] |= 1 << (line % 64);
+    }
+
+    /// Takes a line out.
+    pub fn remove(&mut self, line: u8) {
+        self.words[line as usize / 64] &= !(1 << (line % 64));
+    }
+
+    /// How many lines there are.
+    pub fn len(&self) -> usize {
+        self.words.iter().map(|w| w.count_ones() as usize).sum()
+    }
+
+    /// Whether there is no line.
+    pub fn is_empty(&self) -> bool {
+        self.words == [0; 4]
+    }
+
+    /// The lines, lowest first.
+    pub fn iter(&self) -> impl Iterator<Item = u8> + '_ {
+        (0..=u8::MAX).filter(|&line| self.contains(line))
+    }
+
+    /// The lines that are in this set, in the other or in both.
+    pub fn union(&self, other: &Lines) -> Lines {
+        Lines {
+            words: std::array::from_fn(|i| self.words[i] | other.words[i]),
+        }
+    }
+}
+
+impl FromIterator<u8> for Lines {
+    fn from_iter<I: IntoIterator<Item = u8>>(lines: I) -> Lines {
+        let mut set = Lines::EMPTY;
+        lines.into_iter().for_each(|line| set.insert(line));
+        set
+    }
+}
+
+impl fmt::Debug for Lines {
+    fn fmt(&self, f: &mut fmt::Formatter<'_>) -> fmt::Result {
+        f.debug_set().entries(self.iter()).finish()
+    }
+}
+
+impl Transaction {
+    /// Empty sets and an empty log.
+    pub const EMPTY: Transaction = Transaction {
+        reads: Lines::EMPTY,
+        writes: Lines::EMPTY,
+        count: 0,
+        log: [Entry { index: 0, value: 0 }; PLACES],
+    };
+
+    /// The number of lines in either set, counted once.
+    pub fn footprint(&self) -> usize {
+        self.reads.union(&self.writes).len()
+    }
+
+    /// The used places of the log, in order of first store.
+    pub fn entries(&self) -> &[Entry] {
+        &self.log[..self.count.min(PLACES)]
+    }
+
+    /// The logged value of a doubleword, if it has one.
+    pub fn logged(&self, index: u32) -> Option<u64> {
+        let entry = self.entries().iter().find(|e| e.index == index);
+        entry.map(|e| e.value)
+    }
+}
+
+impl Default for Transaction {
+    fn default() -> Transaction {
+        Transaction::EMPTY
+    }
+}
+
+/// Shows the log up to its last place that is used or not 0, so that no bit
+/// of a broken one is hidden.
+impl fmt::Debug for Transaction {
+    fn fmt(&self, f: &mut fmt::Formatter<'_>) -> fmt::Result {
+        let zero = Entry::default();
+        let last = self.log.iter().rposition(|e| *e != zero);
+        let shown = self.count.min(PLACES).max(last.map_or(0, |i| i + 1));
+        f.debug_struct("Transaction")
+            .field("reads", &self.reads)
+            .field("writes", &self.writes)
+            .field("count", &self.count)
+            .field("log", &&self.log[..shown])
+            .finish()
+    }
+}

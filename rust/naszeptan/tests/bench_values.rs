@@ -1,0 +1,152 @@
+//! K1 to K10 of document 01, "Bench values", through the archive.
+
+use naszeptan::{Answer, Event, Machine, State, LINE, MEMORY};
+
+const BEGIN: Event = Event::Tbegin { r: false };
+const ADDI: Event = Event::Addi {
+    rt: 9,
+    ra: 0,
+    si: 0,
+};
+
+/// A fresh machine with its memory, and steps of which the answer is told.
+struct Desk {
+    machine: Machine,
+    memory: Vec<u64>,
+}
+
+impl Desk {
+    fn new() -> Desk {
+        let mut machine = Machine::fresh();
+        machine.threads[0].control.nia = 0x1000;
+        Desk {
+            machine,
+            memory: vec![0; MEMORY],
+        }
+    }
+
+    fn privileged() -> Desk {
+        let mut desk = Desk::new();
+        desk.machine.threads[0].control.pr = false;
+        desk
+    }
+
+    fn step(&mut self, thread: u8, event: Event, answer: Answer) {
+        let given = self.machine.step(&mut self.memory, thread, event);
+        assert_eq!(given, answer, "{event}");
+    }
+
+    fn texasr(&self) -> u64 {
+        self.machine.threads[0].control.texasr.0
+    }
+}
+
+#[test]
+fn k1_abort() {
+    let mut desk = Desk::new();
+    desk.step(0, BEGIN, Answer::Done);
+    desk.step(0, ADDI, Answer::Done);
+    desk.step(0, Event::Tabort { ra: 0 }, Answer::Handled);
+    let thread = &desk.machine.threads[0];
+    assert_eq!(thread.control.texasr.0, 0x0000_0001_1C00_0001);
+    assert_eq!(thread.control.tfiar, 0x1009);
+    assert_eq!(thread.control.tfhar, 0x1004);
+    assert_eq!(thread.cr0, 0b1010);
+    assert_eq!(thread.control.nia, 0x1004);
+}
+
+#[test]
+fn k2_abort_with_code() {
+    let mut desk = Desk::new();
+    desk.machine.threads[0].live.gpr[3] = 0x1A5;
+    desk.step(0, BEGIN, Answer::Done);
+    desk.step(0, ADDI, Answer::Done);
+    desk.step(0, Event::Tabort { ra: 3 }, Answer::Handled);
+    assert_eq!(desk.texasr(), 0xA500_0001_1C00_0001);
+}
+
+#[test]
+fn k3_disallowed() {
+    let mut desk = Desk::privileged();
+    desk.step(0, BEGIN, Answer::Done);
+    desk.step(0, BEGIN, Answer::Done);
+    desk.step(0, Event::Disallowed, Answer::Handled);
+    assert_eq!(desk.texasr(), 0x0080_0000_0C00_0002);
+}
+
+#[test]
+fn k4_conflict() {
+    let mut desk = Desk::new();
+    desk.step(0, BEGIN, Answer::Done);
+    desk.step(0, Event::Ld { rt: 3, index: 5 }, Answer::Done);
+    desk.step(1, Event::Std { ra: 0, index: 6 }, Answer::Done);
+    assert_eq!(desk.texasr(), 0x0008_0000_1800_0001);
+    assert_eq!(desk.machine.threads[0].control.state, State::N);
+}
+
+#[test]
+fn k5_own_store_in_suspended_state() {
+    let mut desk = Desk::new();
+    desk.step(0, BEGIN, Answer::Done);
+    desk.step(0, Event::Ld { rt: 3, index: 5 }, Answer::Done);
+    desk.step(0, Event::Tsr { l: false }, Answer::Done);
+    desk.machine.threads[0].live.gpr[4] = 77;
+    desk.step(0, Event::Std { ra: 4, index: 5 }, Answer::Recorded);
+    assert_eq!(desk.texasr(), 0x0010_0000_9C00_0001);
+    assert_eq!(desk.memory[5], 77);
+    desk.step(0, Event::Tsr { l: true }, Answer::Handled);
+}
+
+#[test]
+fn k6_footprint() {
+    let mut desk = Desk::privileged();
+    let load = |line: usize| Event::Ld {
+        rt: 3,
+        index: (line * LINE) as u32,
+    };
+    desk.step(0, BEGIN, Answer::Done);
+    for line in 0..32 {
+        desk.step(0, load(line), Answer::Done);
+    }
+    assert_eq!(desk.machine.threads[0].transaction.footprint(), 32);
+    desk.step(0, load(32), Answer::Handled);
+    assert_eq!(desk.texasr(), 0x0020_0000_0C00_0001);
+}
+
+#[test]
+fn k7_nesting() {
+    let mut desk = Desk::new();
+    for _ in 0..15 {
+        desk.step(0, BEGIN, Answer::Done);
+    }
+    assert_eq!(desk.texasr(), 15);
+    desk.step(0, BEGIN, Answer::Handled);
+    assert_eq!(desk.texasr(), 0x0040_0000_1C00_000F);
+}
+
+#[test]
+fn k8_rollback_only() {
+    let mut desk = Desk::new();
+    desk.step(0, Event::Tbegin { r: true }, Answer::Done);
+    assert_eq!(desk.texasr(), 0x0200_0001);
+}
+
+#[test]
+fn k9_last_address() {
+    let mut desk = Desk::new();
+    desk.machine.threads[0].control.nia = 0xFFFF_FFFF_FFFF_FFFC;
+    desk.machine.threads[0].control.tfhar = 0x2000;
+    desk.step(0, BEGIN, Answer::Done);
+    assert_eq!(desk.machine.threads[0].control.tfhar, 0);
+    assert_eq!(desk.machine.threads[0].control.nia, 0);
+}
+
+#[test]
+fn k10_word_and_doubleword() {
+    let (to, ra, rb) = (16, 3, 4);
+    let mut desk = Desk::new();
+    desk.machine.threads[0].live.gpr[3] = 0xFFFF_FFFF;
+    desk.step(0, BEGIN, Answer::Done);
+    desk.step(0, Event::Tabortdc { to, ra, rb }, Answer::Done);
+    desk.step(0, Event::Tabortwc { to, ra, rb }, Answer::Handled);
+}

@@ -1,0 +1,77 @@
+//! The mirrors in `raw` lie in memory as the C header has them: on x86-64
+//! Linux, size_t and uint64_t have 8 bytes and are aligned to 8.
+
+use std::mem::{align_of, offset_of, size_of};
+
+use naszeptan::raw::{
+    Control, Done, Ended, Entry, Event, Lines, Machine, Record, Registers, Thread, Transaction,
+};
+
+/// The size and alignment of a type, and where its fields start.
+macro_rules! layout {
+    ($type:ty, $($field:ident),*) => {
+        (size_of::<$type>(), align_of::<$type>(), vec![$(offset_of!($type, $field)),*])
+    };
+}
+
+#[test]
+fn registers() {
+    assert_eq!(layout!(Registers, gpr, cr), (264, 8, vec![0, 256]));
+}
+
+#[test]
+fn lines() {
+    assert_eq!(layout!(Lines, words), (32, 8, vec![0]));
+}
+
+#[test]
+fn entry() {
+    assert_eq!(layout!(Entry, index, value), (16, 8, vec![0, 8]));
+}
+
+#[test]
+fn transaction() {
+    assert_eq!(
+        layout!(Transaction, reads, writes, count, log),
+        (1096, 8, vec![0, 32, 64, 72])
+    );
+}
+
+#[test]
+fn control() {
+    assert_eq!(
+        layout!(Control, nia, pr, tm, state, doomed, tfhar, tfiar, texasr),
+        (40, 8, vec![0, 8, 9, 10, 11, 16, 24, 32])
+    );
+}
+
+#[test]
+fn thread() {
+    assert_eq!(
+        layout!(Thread, live, cr0, checkpoint, control, transaction),
+        (1672, 8, vec![0, 264, 272, 536, 576])
+    );
+}
+
+#[test]
+fn machine() {
+    assert_eq!(layout!(Machine, count, threads), (6696, 8, vec![0, 8]));
+}
+
+#[test]
+fn event() {
+    assert_eq!(
+        layout!(Event, kind, thread, x, ra, rb, flags, index, si),
+        (16, 4, vec![0, 1, 2, 3, 4, 5, 8, 12])
+    );
+}
+
+#[test]
+fn answers() {
+    assert_eq!(layout!(Done, answer, machine), (6704, 8, vec![0, 8]));
+    assert_eq!(
+        layout!(Ended, answer, count, machine),
+        (6712, 8, vec![0, 8, 16])
+    );
+    assert_eq!(layout!(Record, answer, event), (20, 4, vec![0, 4]));
+}

@@ -1,0 +1,125 @@
+//! The stored tapes, stepped and run, give what the text beside them says.
+
+use std::fs;
+use std::path::{Path, PathBuf};
+
+use naszeptan::{Answer, Ended, Machine, Tape, MEMORY};
+
+/// The program's limit (document 01, "The tape"). A run has none.
+const LONGEST: usize = 65_536;
+
+fn folder() -> PathBuf {
+    Path::new(env!("CARGO_MANIFEST_DIR")).join("../../tapes")
+}
+
+/// The lines that the program writes: the last block of the text.
+fn expected(name: &str) -> Vec<String> {
+    let text = fs::read_to_string(folder().join(format!("{name}.txt"))).unwrap();
+    let (_, block) = text.rsplit_once("\n\n").unwrap();
+    block.lines().map(|line| line.trim().to_string()).collect()
+}
+
+/// Each record's answer by stepping, and how it ended.
+fn stepped(machine: &mut Machine, memory: &mut [u64], tape: &Tape) -> (Vec<Answer>, Ended) {
+    let mut answers = Vec::new();
+    let mut count = 0;
+    for record in tape.records() {
+        let answer = match record {
+            Ok((thread, event)) => machine.step(memory, thread, event),
+            Err(refused) => refused,
+        };
+        answers.push(answer);
+        if !answer.is_done() {
+            return (answers, Ended { answer, count });
+        }
+        count += 1;
+    }
+    let answer = Answer::Done;
+    (answers, Ended { answer, count })
+}
+
+/// What the program would write. A run must end as the steps do.
+fn written(tape: &Tape) -> Vec<String> {
+    if tape.as_bytes().len() > LONGEST {
+        return vec!["long".to_string()];
+    }
+    let (mut machine, mut memory) = (Machine::fresh(), vec![0; MEMORY]);
+    let ended = machine.run(&mut memory, tape);
+    if tape.is_ragged() {
+        assert_eq!(machine, Machine::fresh());
+        return vec![
+            format!("- {}", ended.answer.number()),
+            format!("end {}", ended.count),
+        ];
+    }
+    let (mut other, mut other_memory) = (Machine::fresh(), vec![0; MEMORY]);
+    let (answers, also) = stepped(&mut other, &mut other_memory, tape);
+    assert_eq!(ended, also);
+    assert_eq!(machine, other);
+    assert_eq!(memory, other_memory);
+    let numbered = answers.iter().enumerate();
+    let mut lines: Vec<_> = numbered
+        .map(|(n, a)| format!("{n} {}", a.number()))
+        .collect();
+    lines.push(format!("end {}", ended.count));
+    lines
+}
+
+/// The text of a long tape leaves lines out at "..".
+fn hold(name: &str) {
+    let tape = Tape::from_bytes(fs::read(folder().join(format!("{name}.tape"))).unwrap());
+    let (given, expected) = (written(&tape), expected(name));
+    match expected.iter().position(|line| line == "..") {
+        None => assert_eq!(given, expected),
+        Some(gap) => {
+            assert_eq!(given[..gap], expected[..gap]);
+            let tail = &expected[gap + 1..];
+            assert_eq!(given[given.len() - tail.len()..], *tail);
+        }
+    }
+}
+
+#[test]
+fn edition_two() {
+    hold("edition_two");
+}
+
+#[test]
+fn elision() {
+    hold("elision");
+}
+
+#[test]
+fn every_kind() {
+    hold("every_kind");
+}
+
+#[test]
+fn first_byte() {
+    hold("first_byte");
+}
+
+#[test]
+fn longest() {
+    hold("longest");
+}
+
+#[test]
+fn nothing() {
+    hold("nothing");
+}
+
+#[test]
+fn pair() {
+    hold("pair");
+}
+
+#[test]
+fn ragged() {
+    hold("ragged");
+}
+
+#[test]
+fn too_long() {
+    hold("too_long");
+}
