@@ -1,0 +1,186 @@
+//! How often each cell and each sight was met, and what should have been.
+
+use std::fmt::Write;
+
+use crate::cells::{self, Before, Call, CALLS, CALL_ROWS, NUMBERS, SHOWN, STATES};
+use crate::sights;
+
+/// All that was met.
+#[derive(Clone, PartialEq, Eq, Debug)]
+pub struct Counts {
+    /// Events compared, by kind (0 for none), state and answer.
+    cells: Vec<[[u64; NUMBERS]; STATES]>,
+    sights: [u64; sights::SIGHTS],
+    calls: [[u64; NUMBERS]; CALLS],
+    /// Records done by runs.
+    pub records: u64,
+}
+
+impl Default for Counts {
+    fn default() -> Counts {
+        Counts {
+            cells: vec![[[0; NUMBERS]; STATES]; 18],
+            sights: [0; sights::SIGHTS],
+            calls: [[0; NUMBERS]; CALLS],
+            records: 0,
+        }
+    }
+}
+
+/// The place of a number. Those past 21 share the last, which no table allows.
+fn place(answer: u8) -> usize {
+    usize::from(answer).min(NUMBERS - 1)
+}
+
+impl Counts {
+    /// One event on which both sides agreed, and its sights.
+    pub fn event(&mut self, kind: u8, before: Before, answer: u8, sights: u64) {
+        let kind = if kind > 17 { 0 } else { kind };
+        let before = match answer {
+            1 | 2 | 3 | 8 | 9 => Before::Nobody,
+            _ => before,
+        };
+        self.cells[usize::from(kind)][before as usize][place(answer)] += 1;
+        if model::answer::is_done(answer) {
+            for (bit, count) in self.sights.iter_mut().enumerate() {
+                *count += sights >> bit & 1;
+            }
+        }
+    }
+
+    /// One call on which both sides agreed.
+    pub fn call(&mut self, call: Call, answer: u8) {
+        self.calls[call as usize][place(answer)] += 1;
+    }
+
+    /// All numbers in a fixed order, by which a worker tells what it met.
+    pub fn numbers(&self) -> Vec<u64> {
+        let cells = self.cells.as_flattened().as_flattened().iter();
+        cells
+            .chain(&self.sights)
+            .chain(self.calls.as_flattened())
+            .chain([&self.records])
+            .copied()
+            .collect()
+    }
+
+    /// Adds what another has met, by its numbers.
+    pub fn add(&mut self, numbers: impl IntoIterator<Item = u64>) {
+        let cells = self.cells.as_flattened_mut().as_flattened_mut().iter_mut();
+        cells
+            .chain(&mut self.sights)
+            .chain(self.calls.as_flattened_mut())
+            .chain([&mut self.records])
+            .zip(numbers)
+            .for_each(|(ours, theirs)| *ours += theirs);
+    }
+
+    /// How many events were compared.
+    pub fn events(&self) -> u64 {
+        self.cells.as_flattened().as_flattened().iter().sum()
+    }
+
+    /// What could be met and was not, and what was met and cannot be.
+    pub fn wrong(&self) -> Vec<String> {
+        let mut wrong = Vec::new();
+        for (kind, states) in (0u8..).zip(&self.cells) {
+            for before in Before::ALL {
+                for (answer, &met) in (0u8..).zip(&states[before as usize]) {
+                    let why = cells::why_not(kind, before, answer);
+                    let cell = format!("{}, {}, {answer}", cells::name(kind), before.name());
+                    match why {
+                        None if met == 0 => wrong.push(format!("not met: {cell}")),
+                        Some(why) if met > 0 => {
+                            wrong.push(format!("met {met} times: {cell}, though {why}"))
+                        }
+                        _ => {}
+                    }
+                }
+            }
+        }
+        for (&met, (_, name, _)) in self.sights.iter().zip(&sights::ALL) {
+            if met == 0 {
+                wrong.push(format!("not met: {name}"));
+            }
+        }
+        wrong.extend(self.wrong_calls());
+        wrong
+    }
+
+    fn wrong_calls(&self) -> Vec<String> {
+        let mut wrong = Vec::new();
+        for (call, name, can) in CALL_ROWS {
+            for (answer, &met) in (0u8..).zip(&self.calls[call as usize]) {
+                match can.contains(&answer) {
+                    true if met == 0 => wrong.push(format!("not met: {name}, {answer}")),
+                    false if met > 0 => wrong.push(format!(
+                        "met {met} times: {name}, {answer}, which it never gives"
+                    )),
+                    _ => {}
+                }
+            }
+        }
+        wrong
+    }
+
+    /// The three tables. A dot is a cell that cannot be met.
+    pub fn tables(&self) -> String {
+        let mut text = String::new();
+        // Writing to a string does not fail.
+        let _ = self.write_cells(&mut text);
+        let _ = self.write_calls(&mut text);
+        let _ = writeln!(text, "\nsituations met");
+        for (met, (_, name, _)) in self.sights.iter().zip(&sights::ALL) {
+            let _ = writeln!(text, "{met:>9}  {name}");
+        }
+        text
+    }
+
+    fn write_cells(&self, text: &mut String) -> std::fmt::Result {
+        write!(text, "events, by kind, state before and answer\n{:22}", "")?;
+        for answer in SHOWN {
+            write!(text, "{answer:>8}")?;
+        }
+        writeln!(text)?;
+        for (kind, states) in (0u8..).zip(&self.cells) {
+            for before in Before::ALL {
+                let met = &states[before as usize];
+                let can = |answer| cells::why_not(kind, before, answer).is_none();
+                if !SHOWN.into_iter().any(can) {
+                    continue;
+                }
+                write!(text, "{:11}{:11}", cells::name(kind), before.name())?;
+                for answer in SHOWN {
+                    write_cell(text, met[usize::from(answer)], can(answer))?;
+                }
+                writeln!(text)?;
+            }
+        }
+        Ok(())
+    }
+
+    fn write_calls(&self, text: &mut String) -> std::fmt::Result {
+        write!(text, "\ncalls, by answer\n{:22}", "")?;
+        for answer in 0..14 {
+            write!(text, "{answer:>8}")?;
+        }
+        writeln!(text)?;
+        for (call, name, can) in CALL_ROWS {
+            write!(text, "{name:22}")?;
+            for answer in 0..14u8 {
+                let met = self.calls[call as usize][usize::from(answer)];
+                write_cell(text, met, can.contains(&answer))?;
+            }
+            writeln!(text)?;
+        }
+        Ok(())
+    }
+}
+
+fn write_cell(text: &mut String, met: u64, can: bool) -> std::fmt::Result {
+    if met == 0 && !can {
+        write!(text, "{:>8}", ".")
+    } else {
+        write!(text, "{met:>8}")
+    }
+}

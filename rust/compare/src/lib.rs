@@ -1,0 +1,30 @@
+//! The proved machine held to the second model. Random machines and random
+//! events go to both sides; after every event the answer, the memory and every
+//! field of the machine are compared.
+//!
+//! - [`sides`]: the two sides, and an event of the header as the model's.
+//! - [`pair`]: a machine on both sides, and where the two differ.
+//! - [`start`]: the machines that a sequence starts from.
+//! - [`plan`]: which event comes next.
+//! - [`cells`]: which answers can be met where, by hand from document 01.
+//! - [`sights`]: situations that must be met beside those.
+//! - [`counts`]: how often each was met, and what was not.
+//! - [`batch`]: a numbered piece of the comparison, and a worker's share.
+//! - [`workers`]: the shares, each in a process of its own.
+//! - [`calls`]: valid, run, read and write, and bits that are no machine.
+//! - [`shrink`]: the shortest tape that still shows a difference.
+
+#![forbid(unsafe_code)]
+#![deny(missing_docs)]
+
+pub mod batch;
+pub mod calls;
+pub mod cells;
+pub mod counts;
+pub mod pair;
+pub mod plan;
+pub mod shrink;
+pub mod sides;
+pub mod sights;
+pub mod start;
+pub mod workers;

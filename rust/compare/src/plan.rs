@@ -1,0 +1,236 @@
+//! Which event comes next: random ones for the machine as it is, among them
+//! scenes of many events that random ones would seldom complete.
+
+use std::collections::VecDeque;
+
+use model::gen::{self, Rng};
+use model::machine::{LINE, LOG, MAX_FOOTPRINT};
+use model::{Event, Machine, State, Thread};
+use naszeptan::raw;
+
+use crate::sides::event;
+
+/// The rest of the scene that is being played.
+#[derive(Default)]
+pub struct Plan {
+    waiting: VecDeque<(u8, Event)>,
+}
+
+impl Plan {
+    /// The next event for this machine with a memory of `len`. Once in a
+    /// while it is no event: a wrong kind, or a field that must be 0.
+    pub fn next(&mut self, rng: &mut Rng, m: &Machine, len: usize) -> raw::Event {
+        if rng.one_in(24) {
+            return damaged(rng, m, len);
+        }
+        if self.waiting.is_empty() && rng.one_in(20) {
+            self.waiting.extend(scene(rng, m, len));
+        }
+        // Others go between the events of a scene, so that threads meet.
+        if !rng.one_in(8) {
+            if let Some((thread, e)) = self.waiting.pop_front() {
+                return event(thread, e);
+            }
+        }
+        let (thread, e) = gen::event(rng, m, len);
+        event(thread, mended(rng, m, len, (thread, e)))
+    }
+}
+
+/// Turns some events so that live transactions are met more often: left to
+/// itself, a thread is mostly failed, doomed or without the facility.
+fn mended(rng: &mut Rng, m: &Machine, len: usize, (thread, e): (u8, Event)) -> Event {
+    let Some(t) = m.threads.get(usize::from(thread)) else {
+        return e;
+    };
+    let tm = true;
+    match t.state {
+        State::N | State::S if !t.tm && rng.one_in(3) => Event::Host { pr: rng.flag(), tm },
+        State::N if rng.one_in(4) => Event::Tbegin { r: rng.one_in(4) },
+        State::S if t.doomed && rng.one_in(4) => Event::Tsr { l: true },
+        State::T if is_full(t) && rng.flag() => pressed(rng, m, len),
+        _ => e,
+    }
+}
+
+/// Whether the footprint or the log takes no more.
+fn is_full(t: &Thread) -> bool {
+    t.footprint() == MAX_FOOTPRINT || t.count == LOG
+}
+
+/// An access that a full transaction mostly cannot make, often to a line that
+/// some thread has.
+fn pressed(rng: &mut Rng, m: &Machine, len: usize) -> Event {
+    let lines = (len / LINE).max(1);
+    let had = rng.pick([0, 1, 2, 3]);
+    let had = m.threads[had].reads.union(&m.threads[had].writes);
+    let from = rng.below(lines);
+    let line = (from..lines).chain(0..from).find(|&l| had.contains(l));
+    let index = (line.unwrap_or(from) * LINE + rng.below(LINE)) as u32;
+    match rng.flag() {
+        true => Event::Ld { rt: 5, index },
+        false => Event::Std { ra: 5, index },
+    }
+}
+
+/// Fields that are mostly no event. Whether they are is for the model to say.
+pub fn damaged(rng: &mut Rng, m: &Machine, len: usize) -> raw::Event {
+    let (thread, e) = gen::event(rng, m, len);
+    let mut e = event(thread, e);
+    let byte = rng.byte();
+    let small = rng.pick([1, 2, 3, 4, 32, 128, 255, byte]);
+    for _ in 0..rng.pick([1, 1, 2]) {
+        match rng.below(8) {
+            0 => e.kind = rng.pick([0, 18, 19, 255, byte]),
+            1 => e.thread = rng.pick([4, 255, byte]),
+            2 => e.x = small,
+            3 => e.ra = small,
+            4 => e.rb = small,
+            5 => e.flags = small,
+            6 => e.index = 1 << rng.below(32),
+            _ => e.si = 1 << rng.below(16),
+        }
+    }
+    e
+}
+
+/// Where a scene is played: its thread, another thread, and its first line.
+struct Stage {
+    me: u8,
+    other: u8,
+    first: usize,
+    len: usize,
+}
+
+impl Stage {
+    /// The index of a doubleword of the nth line from the first, around the
+    /// end of memory.
+    fn index(&self, nth: usize, within: usize) -> u32 {
+        let lines = (self.len / LINE).max(1);
+        ((self.first + nth) % lines * LINE + within % LINE) as u32
+    }
+}
+
+/// A scene on this machine: the events of one thread, and of others where
+/// they belong to it.
+fn scene(rng: &mut Rng, m: &Machine, len: usize) -> Vec<(u8, Event)> {
+    let count = m.count.clamp(1, 4);
+    let me = rng.below(count);
+    let stage = Stage {
+        me: me as u8,
+        other: ((me + 1) % count) as u8,
+        first: rng.below((len / LINE).max(1)),
+        len,
+    };
+    let r = rng.one_in(4);
+    let begin = Event::Tbegin { r };
+    match rng.below(7) {
+        0 => full_log(&stage, begin),
+        1 => full_footprint(rng, &stage, begin),
+        2 => alone(me, (0..16).map(|_| begin)),
+        3 => nested(rng, me, begin),
+        4 => doomed(rng, &stage, begin),
+        5 => reclaimed(rng, &stage, begin),
+        _ => overwritten(rng, &stage, begin),
+    }
+}
+
+/// All events by one thread.
+fn alone(me: usize, events: impl IntoIterator<Item = Event>) -> Vec<(u8, Event)> {
+    events.into_iter().map(|e| (me as u8, e)).collect()
+}
+
+/// 65 doublewords of five lines: one more than the log takes. A commit then
+/// writes all that were kept.
+fn full_log(stage: &Stage, begin: Event) -> Vec<(u8, Event)> {
+    let stores = (0..65).map(|n| Event::Std {
+        ra: (n % 32) as u8,
+        index: stage.index(n / LINE, n),
+    });
+    let events = std::iter::once(begin).chain(stores);
+    alone(stage.me.into(), events)
+}
+
+/// 33 lines, one more than the footprint takes, read or written.
+fn full_footprint(rng: &mut Rng, stage: &Stage, begin: Event) -> Vec<(u8, Event)> {
+    let accesses: Vec<Event> = (0..33)
+        .map(|n| {
+            let index = stage.index(n, rng.below(LINE));
+            if rng.flag() {
+                Event::Ld { rt: 5, index }
+            } else {
+                Event::Std { ra: 5, index }
+            }
+        })
+        .collect();
+    alone(stage.me.into(), std::iter::once(begin).chain(accesses))
+}
+
+/// Some levels down and up again, with a store at the bottom.
+fn nested(rng: &mut Rng, me: usize, begin: Event) -> Vec<(u8, Event)> {
+    let levels = 1 + rng.below(5);
+    let a = rng.one_in(6);
+    let down = (0..levels).map(|_| begin);
+    let store = Event::Std { ra: 4, index: 3 };
+    let up = (0..levels).map(|_| Event::Tend { a });
+    alone(me, down.chain([store]).chain(up))
+}
+
+/// A suspended transaction that fails by its own store or by another
+/// thread's, fails once more, and is resumed.
+fn doomed(rng: &mut Rng, stage: &Stage, begin: Event) -> Vec<(u8, Event)> {
+    let index = stage.index(0, 1);
+    let by = rng.pick([stage.me, stage.other]);
+    let me = stage.me;
+    vec![
+        (me, begin),
+        (me, Event::Std { ra: 2, index }),
+        (me, Event::Tsr { l: false }),
+        (me, Event::Ld { rt: 6, index }),
+        (by, Event::Std { ra: 3, index }),
+        (me, Event::Tcheck { bf: 1 }),
+        (me, Event::Tabort { ra: 3 }),
+        (me, Event::Ld { rt: 6, index }),
+        (me, Event::Tsr { l: true }),
+    ]
+}
+
+/// What a system does at a switch: interrupt, reclaim, read and write the
+/// special registers, recheckpoint, resume.
+fn reclaimed(rng: &mut Rng, stage: &Stage, begin: Event) -> Vec<(u8, Event)> {
+    let index = stage.index(0, 2);
+    let host = Event::Host {
+        pr: false,
+        tm: true,
+    };
+    let spr = 128 + rng.below(4) as u8;
+    alone(
+        stage.me.into(),
+        [
+            begin,
+            Event::Std { ra: 2, index },
+            Event::Interrupt,
+            host,
+            Event::Treclaim { ra: 3 },
+            Event::Mfspr { rt: 7, spr },
+            Event::Mtspr { spr, ra: 7 },
+            Event::Trechkpt,
+            Event::Tcheck { bf: 7 },
+            Event::Tsr { l: true },
+        ],
+    )
+}
+
+/// A doubleword stored twice, loaded, committed, and loaded by another.
+fn overwritten(rng: &mut Rng, stage: &Stage, begin: Event) -> Vec<(u8, Event)> {
+    let index = stage.index(0, rng.below(LINE));
+    let me = stage.me;
+    vec![
+        (me, begin),
+        (me, Event::Std { ra: 2, index }),
+        (me, Event::Std { ra: 3, index }),
+        (me, Event::Ld { rt: 6, index }),
+        (me, Event::Tend { a: true }),
+        (stage.other, Event::Ld { rt: 6, index }),
+    ]
+}

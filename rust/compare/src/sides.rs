@@ -1,0 +1,117 @@
+//! The two sides of the comparison.
+
+use model::tape::{encode, MARK};
+use model::{valid, Machine};
+use naszeptan::raw;
+
+/// The side under test: the calls of the header. The archive is one; the
+/// tests of this comparison put wrong ones in its place.
+pub trait Side: Sync {
+    /// Whether these bits are a machine: 0, 1 or 2.
+    fn valid(&self, m: &raw::Machine, len: usize) -> u8 {
+        raw::valid(*m, len)
+    }
+
+    /// One event.
+    fn step(&self, m: &mut raw::Machine, memory: &mut [u64], e: raw::Event) -> u8 {
+        let done = raw::step(*m, memory, e);
+        *m = done.machine;
+        done.answer
+    }
+
+    /// A tape: the answer that ended it, and how many records were done.
+    fn run(&self, m: &mut raw::Machine, memory: &mut [u64], tape: &[u8]) -> (u8, usize) {
+        let ended = raw::run(*m, memory, tape);
+        *m = ended.machine;
+        (ended.answer, ended.count)
+    }
+
+    /// One record.
+    fn read(&self, record: &[u8]) -> raw::Record {
+        raw::read(record)
+    }
+
+    /// One event as a record.
+    fn write(&self, e: raw::Event, buffer: &mut [u8]) -> u8 {
+        raw::write(e, buffer)
+    }
+}
+
+/// The proved archive.
+pub struct Archive;
+
+impl Side for Archive {}
+
+/// The record that has these fields, whether or not they are an event.
+pub fn record(e: raw::Event) -> [u8; 16] {
+    let [i0, i1, i2, i3] = e.index.to_be_bytes();
+    let [s0, s1] = e.si.to_be_bytes();
+    [
+        MARK, e.kind, e.thread, e.x, e.ra, e.rb, e.flags, 0, i0, i1, i2, i3, s0, s1, 0, 0,
+    ]
+}
+
+/// The fields of a record, whether or not they are an event.
+pub fn fields(record: [u8; 16]) -> raw::Event {
+    let [_, kind, thread, x, ra, rb, flags, _, i0, i1, i2, i3, s0, s1, _, _] = record;
+    raw::Event {
+        kind,
+        thread,
+        x,
+        ra,
+        rb,
+        flags,
+        index: u32::from_be_bytes([i0, i1, i2, i3]),
+        si: u16::from_be_bytes([s0, s1]),
+    }
+}
+
+/// An event of the model as the header has it.
+pub fn event(thread: u8, e: model::Event) -> raw::Event {
+    fields(encode(thread, e))
+}
+
+/// The model's number for a machine and a memory length: 0, 1 or 2.
+pub fn model_valid(m: &Machine, len: usize) -> u8 {
+    if !m.shape_fits(len) {
+        1
+    } else if !valid(m, len) {
+        2
+    } else {
+        0
+    }
+}
+
+/// The model's step. The header puts 8 and 9 after 1 and 2 and before the
+/// rest; the model's reader tells them from the fields as a record.
+pub fn model_step(m: &mut Machine, memory: &mut [u64], e: raw::Event) -> u8 {
+    match model::read(&record(e)) {
+        Ok((thread, e)) => model::step(m, memory, thread, e),
+        Err(number) => match model_valid(m, memory.len()) {
+            0 => number,
+            refused => refused,
+        },
+    }
+}
+
+/// The model's reader: what is refused comes with an event of zeros.
+pub fn model_read(record: &[u8]) -> raw::Record {
+    match model::read(record) {
+        Ok((thread, e)) => raw::Record {
+            answer: 0,
+            event: event(thread, e),
+        },
+        Err(answer) => raw::Record {
+            answer,
+            event: raw::Event::default(),
+        },
+    }
+}
+
+/// The model's writer. The header puts 8 and 9 before 10.
+pub fn model_write(e: raw::Event, buffer: &mut [u8]) -> u8 {
+    match model::read(&record(e)) {
+        Ok((thread, e)) => model::write(thread, e, buffer),
+        Err(number) => number,
+    }
+}

@@ -1,0 +1,216 @@
+//! Situations that the comparison must meet, finer than kind, state and
+//! answer. Each is told from the machine before the event, and counts if the
+//! event was done.
+
+use model::machine::{LINE, LOG, MAX_FOOTPRINT, MAX_LEVEL};
+use model::{Event, Machine, State, Thread};
+
+/// An event before it is done.
+pub struct View<'a> {
+    machine: &'a Machine,
+    me: usize,
+    thread: &'a Thread,
+    event: Event,
+}
+
+/// The kind, the name, and whether an event of that kind is such a one.
+type Sight = (u8, &'static str, fn(&View) -> bool);
+
+/// How many sights there are.
+pub const SIGHTS: usize = 55;
+
+/// All of them.
+#[rustfmt::skip]
+pub const ALL: [Sight; SIGHTS] = [
+    (1, "tbegin. at TL 15 overflows", |v| v.state(State::T) && v.thread.level() == MAX_LEVEL),
+    (1, "tbegin. at TL 14 is done", |v| v.state(State::T) && v.thread.level() == MAX_LEVEL - 1),
+    (1, "tbegin. starts a ROT", |v| v.state(State::N) && v.flag()),
+    (1, "tbegin. nested with another R", |v| v.state(State::T) && v.flag() != v.thread.rot()),
+    (1, "tbegin. at 2^64 - 4", |v| v.state(State::N) && v.thread.nia == !3),
+    (2, "tend. commits a full log", |v| v.commits() && v.thread.count == LOG),
+    (2, "tend. A = 1 commits a log at TL above 1", |v| v.commits() && v.thread.level() > 1 && v.thread.count > 0),
+    (2, "tend. goes up one level", |v| v.state(State::T) && !v.commits()),
+    (3, "tabort. RA 0 with r0 not 0", |v| v.thread.is_live() && v.ra() == 0 && v.thread.live.gpr[0] != 0),
+    (3, "tabort. with a code", |v| v.thread.is_live() && v.ra() != 0 && v.gpr(v.ra()) & 0xFF != 0),
+    (3, "tabort. with bits above the code", |v| v.thread.is_live() && v.ra() != 0 && v.gpr(v.ra()) > 0xFF),
+    (3, "tabort. after a failure in S", |v| v.thread.doomed),
+    (4, "tabortwc. by 16 alone", |v| v.compares(16)),
+    (4, "tabortwc. by 8 alone", |v| v.compares(8)),
+    (4, "tabortwc. by 4 alone", |v| v.compares(4)),
+    (4, "tabortwc. by 2 alone", |v| v.compares(2)),
+    (4, "tabortwc. by 1 alone", |v| v.compares(1)),
+    (5, "tabortdc. by 16 alone", |v| v.compares(16)),
+    (5, "tabortdc. by 8 alone", |v| v.compares(8)),
+    (5, "tabortdc. by 4 alone", |v| v.compares(4)),
+    (5, "tabortdc. by 2 alone", |v| v.compares(2)),
+    (5, "tabortdc. by 1 alone", |v| v.compares(1)),
+    (6, "tresume of a live transaction", |v| v.state(State::S) && v.flag() && !v.thread.doomed),
+    (6, "tresume of a doomed one", |v| v.state(State::S) && v.flag() && v.thread.doomed),
+    (6, "tsuspend with a full log", |v| v.state(State::T) && !v.flag() && v.thread.count == LOG),
+    (7, "tcheck of a doomed thread, CR0", |v| v.thread.doomed && v.x() == 0),
+    (7, "tcheck of a doomed thread, CR7", |v| v.thread.doomed && v.x() == 7),
+    (8, "treclaim. of a live transaction with a log", |v| v.thread.is_live() && v.thread.count > 0),
+    (8, "treclaim. of a doomed one", |v| v.thread.doomed),
+    (9, "trechkpt.", |_| true),
+    (10, "mtspr TEXASR with FS", |v| v.x() == 130 && v.gpr(v.ra()) & model::machine::texasr::FS != 0),
+    (10, "mtspr TFHAR with low bits", |v| v.x() == 128 && v.gpr(v.ra()) & 3 != 0),
+    (10, "mtspr TEXASRU", |v| v.x() == 131),
+    (11, "mfspr TFIAR hidden", |v| v.x() == 129 && v.thread.pr && v.thread.tfiar & 1 == 0 && v.thread.tfiar != 0),
+    (11, "mfspr TEXASRU", |v| v.x() == 131 && v.thread.texasr >> 32 != 0),
+    (12, "ld overflows the footprint", |v| v.overflows_lines()),
+    (12, "ld in a ROT past a full footprint", |v| v.state(State::T) && v.thread.rot() && !v.has_line() && v.thread.footprint() == MAX_FOOTPRINT),
+    (12, "ld overflows a line that another writes", |v| v.overflows_lines() && v.victims() > 0),
+    (12, "ld of its own logged value in T", |v| v.state(State::T) && v.logged()),
+    (12, "ld of its own logged value in S", |v| v.state(State::S) && v.logged()),
+    (12, "ld in T fails one in T", |v| v.fails(true, State::T)),
+    (12, "ld in T fails one in S", |v| v.fails(true, State::S)),
+    (12, "ld not in T fails one in T", |v| v.fails(false, State::T)),
+    (12, "ld not in T fails one in S", |v| v.fails(false, State::S)),
+    (13, "std overflows the footprint", |v| v.overflows_lines()),
+    (13, "std overflows the log alone", |v| v.overflows_log() && !v.overflows_lines()),
+    (13, "std overflows a line that another has", |v| (v.overflows_log() || v.overflows_lines()) && v.victims() > 0),
+    (13, "std replaces a value in a full log", |v| v.state(State::T) && v.logged() && v.thread.count == LOG),
+    (13, "std in S to a line that it and another have", |v| v.state(State::S) && v.has_line() && v.victims() > 0),
+    (13, "std in T fails one in T", |v| v.fails(true, State::T)),
+    (13, "std in T fails one in S", |v| v.fails(true, State::S)),
+    (13, "std not in T fails one in T", |v| v.fails(false, State::T)),
+    (13, "std not in T fails one in S", |v| v.fails(false, State::S)),
+    (13, "std fails two or more", |v| v.victims() > 1 && !v.overflows_log() && !v.overflows_lines()),
+    (16, "interrupt of a transaction with a log", |v| v.state(State::T) && v.thread.count > 0),
+];
+
+const _: () = assert!(SIGHTS <= 64, "one bit each");
+
+/// The sights of this event, one bit each.
+pub fn seen(machine: &Machine, thread: u8, event: Event) -> u64 {
+    let me = usize::from(thread);
+    if me >= machine.count.min(machine.threads.len()) {
+        return 0;
+    }
+    let thread = &machine.threads[me];
+    let view = View {
+        machine,
+        me,
+        thread,
+        event,
+    };
+    let kind = event.kind();
+    let mut bits = 0;
+    for (bit, (of, _, is)) in ALL.iter().enumerate() {
+        if *of == kind && is(&view) {
+            bits |= 1 << bit;
+        }
+    }
+    bits
+}
+
+impl View<'_> {
+    fn state(&self, state: State) -> bool {
+        self.thread.state == state
+    }
+
+    /// R, A or L.
+    fn flag(&self) -> bool {
+        match self.event {
+            Event::Tbegin { r: flag } | Event::Tend { a: flag } | Event::Tsr { l: flag } => flag,
+            _ => false,
+        }
+    }
+
+    fn ra(&self) -> u8 {
+        match self.event {
+            Event::Tabort { ra } | Event::Mtspr { ra, .. } => ra,
+            _ => 0,
+        }
+    }
+
+    /// BF or SPR.
+    fn x(&self) -> u8 {
+        match self.event {
+            Event::Tcheck { bf } => bf,
+            Event::Mtspr { spr, .. } | Event::Mfspr { spr, .. } => spr,
+            _ => 0,
+        }
+    }
+
+    /// The register, or 0 where there is none of this number.
+    fn gpr(&self, r: u8) -> u64 {
+        self.thread.live.gpr.get(usize::from(r)).map_or(0, |&v| v)
+    }
+
+    /// Whether this TO alone is asked for, in a live transaction, on unlike
+    /// registers unless for equality.
+    fn compares(&self, bit: u8) -> bool {
+        match self.event {
+            Event::Tabortwc { to, ra, rb } | Event::Tabortdc { to, ra, rb } => {
+                let equal = self.gpr(ra) == self.gpr(rb);
+                to == bit && self.thread.is_live() && equal == (bit == 4)
+            }
+            _ => false,
+        }
+    }
+
+    fn commits(&self) -> bool {
+        self.state(State::T) && (self.flag() || self.thread.level() == 1)
+    }
+
+    /// The doubleword of a load or store.
+    fn index(&self) -> u32 {
+        match self.event {
+            Event::Ld { index, .. } | Event::Std { index, .. } => index,
+            _ => 0,
+        }
+    }
+
+    fn line(&self) -> usize {
+        self.index() as usize / LINE
+    }
+
+    fn has_line(&self) -> bool {
+        self.thread.reads.contains(self.line()) || self.thread.writes.contains(self.line())
+    }
+
+    /// Whether the doubleword is in the thread's own log.
+    fn logged(&self) -> bool {
+        let used = &self.thread.log[..self.thread.count.min(LOG)];
+        used.iter().any(|e| e.index == self.index())
+    }
+
+    /// "Loads, stores and conflicts" (a), for the footprint.
+    fn overflows_lines(&self) -> bool {
+        let load = matches!(self.event, Event::Ld { .. });
+        self.state(State::T)
+            && !(load && self.thread.rot())
+            && !self.has_line()
+            && self.thread.footprint() == MAX_FOOTPRINT
+    }
+
+    /// "Loads, stores and conflicts" (a), for the log.
+    fn overflows_log(&self) -> bool {
+        self.state(State::T) && self.thread.count == LOG && !self.logged()
+    }
+
+    /// Whether this other thread has the line so that the access fails it.
+    fn is_victim(&self, n: usize, t: &Thread) -> bool {
+        let store = matches!(self.event, Event::Std { .. });
+        let line = self.line();
+        n != self.me && t.is_live() && (t.writes.contains(line) || store && t.reads.contains(line))
+    }
+
+    fn victims(&self) -> usize {
+        let threads = self.machine.threads.iter().enumerate();
+        threads.filter(|(n, t)| self.is_victim(*n, t)).count()
+    }
+
+    /// Whether the access, in T or not, fails a thread in that state.
+    fn fails(&self, in_t: bool, state: State) -> bool {
+        if self.state(State::T) != in_t || self.overflows_lines() {
+            return false;
+        }
+        if matches!(self.event, Event::Std { .. }) && self.overflows_log() {
+            return false;
+        }
+        let mut threads = self.machine.threads.iter().enumerate();
+        threads.any(|(n, t)| t.state == state && self.is_victim(n, t))
+    }
+}
