@@ -1,14 +1,18 @@
--- Laws of the tests of all numbers below a number: whether all pass, whether any passes, how many pass.
+-- Laws of tests and of what they choose; and of the tests of all numbers below a number: whether all pass, whether any passes, how many pass.
 use mathlib.Core.Path.{_≡_, refl, sym, ap, _∙_}
-use mathlib.Core.Bool.{Bool, true, false, _&&_, _||_, not, and-assoc, and-eq-true-iff, or-assoc, false≢true}
+use mathlib.Core.Bool.{Bool, true, false, _&&_, _||_, not, cond, and-assoc, and-eq-true-iff, or-assoc, true≢false, false≢true}
 use mathlib.Core.List.{List, map}
 use mathlib.Core.Logic.{⊎-elim}
 use Prim.Native.Nat.{ℕ, zero, suc, _+_, _-_, _≤_, _<_}
 use native.Mathlib.Nat.{add-left-comm, add-suc, add-zero, eq-or-lt-of-le, le-of-suc-le-suc, not-suc-le-zero}
+use native.Mathlib.Decide.{ℕ-discrete}
 use native.Mathlib.Omega.{arith}
+use lib.Dec.{eqb}
 use lib.ListN.{length, length-map}
-use borrow.Author.Tests.{not-true, not-false}
+use borrow.Author.Tests.{eq-eqb, ne-eqb, not-true, not-false}
 use Rattle.base.specs.Below.{all-below, any-below, bit, count-below}
+
+-- ---- tests
 
 -- both sides of a test
 pub and-left : (a b : Bool) → (a && b) ≡ true → a ≡ true
@@ -19,6 +23,48 @@ and-right a b p = and-eq-true-iff a b .0 p .1
 
 pub and-intro : (a b : Bool) → a ≡ true → b ≡ true → (a && b) ≡ true
 and-intro a b p q = and-eq-true-iff a b .1 (p, q)
+
+-- both sides of one that fails
+pub neither : (a b : Bool) → (a || b) ≡ false → (a ≡ false) × (b ≡ false)
+neither true b p = absurd (true≢false p)
+neither false b p = (refl, p)
+
+-- a test that fails before, and passes only where it passed, fails after
+pub still-false : (a b : Bool) → (b ≡ true → a ≡ true) → a ≡ false → b ≡ false
+still-false a true p q = sym (p refl) ∙ q
+still-false a false p q = refl
+
+-- equality is tested either way round
+pub eqb-comm : (m n : ℕ) → eqb m n ≡ eqb n m
+eqb-comm m n = go (ℕ-discrete m n)
+  where
+    go : Dec (m ≡ n) → eqb m n ≡ eqb n m
+    go (yes e) = eq-eqb m n e ∙ sym (eq-eqb n m (sym e))
+    go (no d) = ne-eqb m n d ∙ sym (ne-eqb n m (λ e. d (sym e)))
+
+-- what holds on both ways of a test
+pub fork : {A : Type 0} (P : A → Type 0) (b : Bool) {x y : A} → (b ≡ true → P x) → (b ≡ false → P y) → P (cond b x y)
+fork P true p q = p refl
+fork P false p q = q refl
+
+-- the first number that refuses is 0 only where no test does
+pub no-number : (b : Bool) (n m : ℕ) → cond b (suc n) m ≡ 0 → (b ≡ false) × (m ≡ 0)
+no-number true n m p = absurd (let z : suc n ≡ 0 = p in omega arith)
+no-number false n m p = (refl, p)
+
+-- a single bit is below 2; the test whether it is 1 is its own; and a number below 2 is the bit of that test
+pub bit-lt : (b : Bool) → bit b < 2
+bit-lt true = omega arith
+bit-lt false = omega arith
+
+pub bit-test : (b : Bool) → eqb (bit b) 1 ≡ b
+bit-test true = refl
+bit-test false = refl
+
+pub digit-bit : (d : ℕ) → d < 2 → bit (eqb d 1) ≡ d
+digit-bit zero h = refl
+digit-bit (suc zero) h = refl
+digit-bit (suc (suc d)) h = absurd (let z : suc (suc d) < 2 = h in omega arith)
 
 -- what a callee's flag says, from a negated test of it
 pub flag-true : {r a : Bool} → r ≡ a → not r ≡ false → a ≡ true

@@ -1,21 +1,21 @@
 -- The crossing loses nothing, and what is refused changes nothing.
-use mathlib.Core.Path.{_≡_, refl, sym, ap, _∙_}
-use mathlib.Core.Bool.{Bool, true, false, cond, _&&_, and-eq-true-iff}
+use mathlib.Core.Path.{_≡_, refl, _∙_}
+use mathlib.Core.Bool.{Bool, true, false, and-eq-true-iff}
 use mathlib.Core.List.{List, [], _∷_}
 use Prim.Native.Nat.{ℕ, zero, suc, _≤_}
 use native.Mathlib.Omega.{arith}
-use lib.Dec.{eqb, leb}
+use lib.Dec.{leb}
 use lib.ListN.{length, getD}
 use borrow.Author.Tests.{leb-true}
 use Rattle.base.specs.Below.{bit}
 use Rattle.base.specs.Limits.{most-threads}
+use Rattle.base.proofs.Below.{bit-test, digit-bit}
 use Rattle.thread.specs.declared.State.{State}
 use Rattle.thread.specs.declared.State.the-variants.{N, T, S}
 use Rattle.thread.specs.declared.Control.{Control}
 use Rattle.thread.specs.declared.Thread.{Thread}
 use Rattle.machine.specs.Machine.{thread, no-thread}
 use Rattle.machine.specs.Valid.{sized}
-use Rattle.machine.specs.declared.Machine.{Machine}
 use Rattle.tape.specs.declared.Read.{Read}
 use Rattle.tape.specs.declared.Read.the-variants.{Record, Refused}
 use Rattle.tape.proofs.Round.{written}
@@ -29,15 +29,6 @@ use Rattle.host.specs.declared.RawThread.{RawThread}
 use Rattle.host.specs.declared.RawMachine.{RawMachine}
 
 -- ---- flags, states, control registers
-
-bit-back : (n : ℕ) → n ≤ 1 → bit (eqb n 1) ≡ n
-bit-back zero h = refl
-bit-back (suc zero) h = refl
-bit-back (suc (suc n)) h = absurd (omega (arith, h))
-
-bit-forth : (b : Bool) → eqb (bit b) 1 ≡ b
-bit-forth true = refl
-bit-forth false = refl
 
 bit-small : (b : Bool) → leb (bit b) 1 ≡ true
 bit-small true = refl
@@ -67,10 +58,10 @@ control-back k h =
     let q = simp and-eq-true-iff at h in
     λ j. record {
       nia = k .nia;
-      pr = bit-back (k .pr) (leb-true _ _ (q .0 .0 .0)) j;
-      tm = bit-back (k .tm) (leb-true _ _ (q .0 .0 .1)) j;
+      pr = digit-bit (k .pr) (omega (arith, leb-true (k .pr) 1 (q .0 .0 .0))) j;
+      tm = digit-bit (k .tm) (omega (arith, leb-true (k .tm) 1 (q .0 .0 .1))) j;
       state = state-back (k .state) (leb-true _ _ (q .0 .1)) j;
-      doomed = bit-back (k .doomed) (leb-true _ _ (q .1)) j;
+      doomed = digit-bit (k .doomed) (omega (arith, leb-true (k .doomed) 1 (q .1))) j;
       tfhar = k .tfhar;
       tfiar = k .tfiar;
       texasr = k .texasr;
@@ -81,10 +72,10 @@ unfolding control-of raw-control
 control-forth k =
     λ j. record {
       nia = k .nia;
-      pr = bit-forth (k .pr) j;
-      tm = bit-forth (k .tm) j;
+      pr = bit-test (k .pr) j;
+      tm = bit-test (k .tm) j;
       state = state-forth (k .state) j;
-      doomed = bit-forth (k .doomed) j;
+      doomed = bit-test (k .doomed) j;
       tfhar = k .tfhar;
       tfiar = k .tfiar;
       texasr = k .texasr;

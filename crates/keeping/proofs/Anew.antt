@@ -1,6 +1,6 @@
 -- A valid thread with one part anew.
-use mathlib.Core.Path.{_≡_, refl}
-use mathlib.Core.Bool.{Bool, true, false, cond, _||_, true≢false}
+use mathlib.Core.Path.{_≡_}
+use mathlib.Core.Bool.{true}
 use mathlib.Core.List.{List, [], _∷_}
 use Prim.Native.Nat.{ℕ, zero, suc, _+_, _-_, _%_, _≤_, _<_}
 use native.Mathlib.Omega.{arith}
@@ -8,7 +8,7 @@ use lib.Dec.{eqb, ltb}
 use lib.ListN.{getD, set, length-set}
 use borrow.Author.Tests.{lt-ltb}
 use Rattle.base.specs.Limits.{most-footprint, most-levels}
-use Rattle.base.proofs.Below.{all-at, all-from}
+use Rattle.base.proofs.Below.{fork, all-at, all-from}
 use Rattle.lines.specs.Lines as lineset
 use Rattle.transaction.specs.declared.Transaction.{Transaction}
 use Rattle.own.specs.Own.{next, advance, ts-field, cr0-from-state, put-gpr}
@@ -23,11 +23,6 @@ use Rattle.thread.specs.declared.Thread.{Thread}
 use Rattle.machine.specs.Valid.{cr-small}
 use Rattle.keeping.proofs.Fails.{Good, Addressed, Holds, Live, Rules, Right}
 
--- what holds on both ways of a test
-pub fork : {A : Type 0} (P : A → Type 0) (b : Bool) {x y : A} → (b ≡ true → P x) → (b ≡ false → P y) → P (cond b x y)
-fork P true p q = p refl
-fork P false p q = q refl
-
 -- what holds of a new element and of each old one holds after a store
 pub set-keeps : {A : Type 0} (P : A → Type 0) (d : A) (xs : List A) (i : ℕ) (a : A) (k : ℕ) → P a → P (getD xs k d) → P (getD (set xs i a) k d)
 set-keeps P d [] i a k pa px = px
@@ -35,11 +30,6 @@ set-keeps P d (x ∷ xs) zero a zero pa px = pa
 set-keeps P d (x ∷ xs) zero a (suc k) pa px = px
 set-keeps P d (x ∷ xs) (suc i) a zero pa px = px
 set-keeps P d (x ∷ xs) (suc i) a (suc k) pa px = set-keeps P d xs i a k pa px
-
--- where neither passes
-pub or-falses : (a b : Bool) → (a || b) ≡ false → (a ≡ false) × (b ≡ false)
-or-falses true b p = absurd (true≢false p)
-or-falses false b p = (refl, p)
 
 -- CR0 from state is small, and the next address a multiple of 4
 pub ts-small : (s : State) → ts-field s < 8

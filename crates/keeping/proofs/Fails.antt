@@ -19,6 +19,7 @@ use Rattle.thread.specs.declared.State.the-variants.{N, T, S}
 use Rattle.thread.specs.declared.Thread.{Thread}
 use Rattle.thread.proofs.Laws.{noted-failed, recording-again}
 use Rattle.machine.specs.Valid.{shaped, aligned, cr-small, fields-small, holds-nothing, live-rules, state-rules, held-right, thread-valid}
+use Rattle.machine.proofs.Laws.{shaped-from, shaped-lengths}
 use Rattle.keeping.proofs.Held.{Shaped, nothing-is-empty, held-unused, empty-nothing, empty-held, empty-shaped}
 
 -- registers of the right lengths, with CR fields below 16
@@ -102,20 +103,26 @@ rules-back T t r = simp and-eq-true-iff (ap not (r .0), live-back t (r .1))
 rules-back S t (inl r) = simp (r .0, and-eq-true-iff) (ap holds-nothing (r .2) ∙ empty-nothing, eq-eqb _ 1 (r .1))
 rules-back S t (inr r) = simp (r .0) (live-back t (r .1))
 
+-- a thread whose arrays have their lengths has the transaction's too
+pub shaped-sets : (t : Thread) → shaped t ≡ true → Shaped (t .transaction)
+shaped-sets t h =
+    let l = shaped-lengths t h in
+    record { reads = l .4; writes = l .5; log = l .6 }
+
 -- a valid thread has these facts, and one that has them is valid
 pub right : (s : State) (t : Thread) (len : ℕ) → t .control .state ≡ s → thread-valid t len ≡ true → Right s t len
-unfolding thread-valid shaped aligned fields-small
+unfolding thread-valid aligned fields-small
 right s t len p h =
     let c = simp and-eq-true-iff at h in
-    let a = c .0 .0 .0 .0 in
+    let a = shaped-lengths t (c .0 .0 .0 .0) in
     let f = c .0 .0 .1 in
-    let g : Holds (t .transaction) len = record { shape = record { reads = eqb-true _ _ (a .0 .0 .1); writes = eqb-true _ _ (a .0 .1); log = eqb-true _ _ (a .1) }; held = c .1 } in
+    let g : Holds (t .transaction) len = record { shape = shaped-sets t (c .0 .0 .0 .0); held = c .1 } in
     record {
       is = p;
       file =
           record {
-            live = record { gpr = eqb-true _ _ (a .0 .0 .0 .0 .0); cr = eqb-true _ _ (a .0 .0 .0 .0 .1); small = f .0 .1 };
-            saved = record { gpr = eqb-true _ _ (a .0 .0 .0 .1 .0); cr = eqb-true _ _ (a .0 .0 .0 .1 .1); small = f .1 };
+            live = record { gpr = a .0; cr = a .1; small = f .0 .1 };
+            saved = record { gpr = a .2; cr = a .3; small = f .1 };
             cr0 = ltb-true _ _ (f .0 .0);
           };
       addresses = record { nia = eqb-true _ _ (c .0 .0 .0 .1 .0); tfhar = eqb-true _ _ (c .0 .0 .0 .1 .1) };
@@ -124,7 +131,7 @@ right s t len p h =
     }
 
 pub valid : {s : State} {t : Thread} {len : ℕ} → Right s t len → thread-valid t len ≡ true
-unfolding thread-valid shaped aligned fields-small
+unfolding thread-valid aligned fields-small
 valid {s} {t} r =
     let f = r .file in
     let h = r .holds .shape in
@@ -132,7 +139,7 @@ valid {s} {t} r =
       (
         (
           (
-            (((((eq-eqb _ _ (f .live .gpr), eq-eqb _ _ (f .live .cr)), (eq-eqb _ _ (f .saved .gpr), eq-eqb _ _ (f .saved .cr))), eq-eqb _ _ (h .reads)), eq-eqb _ _ (h .writes)), eq-eqb _ _ (h .log)),
+            shaped-from t (f .live .gpr, f .live .cr, f .saved .gpr, f .saved .cr, h .reads, h .writes, h .log),
             (eq-eqb _ _ (r .addresses .nia), eq-eqb _ _ (r .addresses .tfhar)),
           ),
           ((lt-ltb _ _ (f .cr0), f .live .small), f .saved .small),

@@ -8,7 +8,7 @@ use native.Mathlib.Omega.{arith}
 use lib.Dec.{eqb, leb, ltb}
 use lib.ListN.{getD, length, length-set, length-replicate, getD-replicate, replicate}
 use lib.Seq.{ext-getD}
-use borrow.Author.Tests.{leb-true, leb-false, ltb-true, eqb-true, eqb-false, le-leb, lt-ltb, le-ltb, eq-eqb, ne-eqb}
+use borrow.Author.Tests.{leb-false, ltb-true, eqb-true, eqb-false, le-leb, lt-ltb, le-ltb, eq-eqb, ne-eqb}
 use Rattle.base.specs.Limits.{line-size, lines, words, most-footprint, most-places}
 use Rattle.base.specs.Below.{all-below, any-below}
 use Rattle.base.proofs.Below.{and-left, and-right, and-intro, all-at, all-from, any-at, any-false, any-false-at, any-witness}
@@ -22,6 +22,7 @@ use Rattle.transaction.specs.declared.Found.the-variants.{At, Absent}
 use Rattle.transaction.specs.declared.Transaction.{Transaction}
 use Rattle.transaction.proofs.Laws.{lookup-absent, store-place, store-count, store-is, store-other, store-place-below, store-count-most, store-there, store-index}
 use Rattle.machine.specs.Valid.{place-right, unused-zero, indices-inside, line-inside, lines-inside, unlike, distinct, logs-line, line-logged, writes-logged, held-right, no-line, holds-nothing}
+use Rattle.machine.proofs.Laws.{unused-count}
 
 -- the arrays have their lengths
 pub record Shaped (x : Transaction) : Type 0 where
@@ -72,12 +73,8 @@ pub held-unused : (x : Transaction) (len : ℕ) → held-right x len ≡ true �
 held-unused x len h = held-parts x len h .unused
 
 -- at most 64 places of the log are used
-few : (x : Transaction) → unused-zero x ≡ true → x .count ≤ most-places
-unfolding unused-zero
-few x u = leb-true _ _ (and-left (leb (x .count) most-places) _ u)
-
 pub held-count : (x : Transaction) (len : ℕ) → held-right x len ≡ true → x .count ≤ most-places
-held-count x len h = few x (held-unused x len h)
+held-count x len h = unused-count x (held-unused x len h)
 
 unused-place : (x : Transaction) → unused-zero x ≡ true → (n : ℕ) → n < most-places → place-right (transaction.entry (x .log) n) n (x .count) ≡ true
 unfolding unused-zero
@@ -218,10 +215,10 @@ module _ (x : Transaction) (i v : ℕ) (s : Shaped x) (u : unused-zero x ≡ tru
       go Absent = omega arith
 
   kept : (n : ℕ) → n < x .count → transaction.entry (transaction.store x i v .log) n .index ≡ transaction.entry (x .log) n .index
-  kept = store-index x i v (s .log) (few x u) f
+  kept = store-index x i v (s .log) (unused-count x u) f
 
   there : transaction.entry (transaction.store x i v .log) (store-place x (transaction.lookup x i)) ≡ record { index = i; value = v }
-  there = store-there x i v (s .log) (few x u) f
+  there = store-there x i v (s .log) (unused-count x u) f
 
   used : (n : ℕ) → n < transaction.store x i v .count → Used x i n (transaction.entry (transaction.store x i v .log) n .index)
   used n h = go (decLt n (x .count))
@@ -239,7 +236,7 @@ module _ (x : Transaction) (i v : ℕ) (s : Shaped x) (u : unused-zero x ≡ tru
   store-unused : unused-zero (transaction.store x i v) ≡ true
   unfolding unused-zero
   store-unused =
-      and-intro _ _ (le-leb (transaction.store x i v .count) most-places (rw count-is (store-count-most x (transaction.lookup x i) (few x u) f)))
+      and-intro _ _ (le-leb (transaction.store x i v .count) most-places (rw count-is (store-count-most x (transaction.lookup x i) (unused-count x u) f)))
       (all-from _ most-places (λ n h. go n h (ℕ-discrete n (store-place x (transaction.lookup x i)))))
     where
       go : (n : ℕ) → n < most-places → Dec (n ≡ store-place x (transaction.lookup x i))

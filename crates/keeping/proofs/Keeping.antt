@@ -1,51 +1,33 @@
 -- A step keeps a machine valid; a refused event changes nothing; the contract allows one answer.
 use mathlib.Core.Path.{_≡_, refl, sym, _∙_}
-use mathlib.Core.Bool.{Bool, true, false, not, cond, _&&_}
+use mathlib.Core.Bool.{Bool, true, false}
 use mathlib.Core.Logic.{_⊎_, ⊎-elim}
 use mathlib.Core.List.{List}
-use Prim.Native.Nat.{ℕ, suc, _≤_, _<_}
+use Prim.Native.Nat.{ℕ, _≤_, _<_}
 use native.Mathlib.Decide.{ℕ-discrete}
 use native.Mathlib.Omega.{arith}
-use lib.Dec.{eqb, leb, ltb}
+use lib.Dec.{eqb, ltb}
 use lib.ListN.{length, set, length-set}
 use lib.Seq.{getD-set-same, getD-set-other}
-use borrow.Author.Tests.{eqb-true, ne-eqb, leb-true, leb-false, lt-ltb, not-false}
+use borrow.Author.Tests.{eqb-true, ne-eqb, lt-ltb}
 use Rattle.base.specs.Limits.{most-threads}
-use Rattle.base.proofs.Below.{and-left, and-right}
+use Rattle.base.proofs.Below.{still-false, fork}
 use Rattle.lines.specs.Lines as lineset
 use Rattle.transaction.specs.Transaction as transaction
 use Rattle.thread.specs.declared.Thread.{Thread}
-use Rattle.event.specs.Event.{kind, operands-right}
 use Rattle.event.specs.declared.Event.{Event}
 use Rattle.own.specs.Events.{own}
 use Rattle.machine.specs.Machine.{thread, no-thread, with-threads}
-use Rattle.machine.specs.Valid.{memory-sized, sized, thread-valid, valid}
-use Rattle.machine.specs.Refusal.{refused-there, refused-later, refusal}
-use Rattle.machine.specs.Step.{Outcome, outcome, perform, step}
+use Rattle.machine.specs.Valid.{sized, thread-valid, valid}
+use Rattle.machine.specs.Refusal.{refused-later, refusal}
+use Rattle.machine.specs.Step.{Outcome, perform, step}
 use Rattle.machine.specs.declared.Machine.{Machine}
+use Rattle.machine.proofs.Validity.{valid-memory-sized, valid-count, valid-thread, passed-thread, passed-operands, passed-there, refusal-valid}
 use Rattle.keeping.proofs.Own.{own-length, own-keeps}
-use Rattle.keeping.proofs.Sets.{Stores, Loads, still-false, writes-touch, own-writes, own-touches}
+use Rattle.keeping.proofs.Sets.{Stores, Loads, writes-touch, own-writes, own-touches}
 use Rattle.keeping.proofs.Others.{Strikes, strikes, strikes-length, Fits, Met, strikes-met}
 use Rattle.keeping.proofs.Parts.{thread-of, Clear, Right, valid-right, right-valid}
 use Rattle.keeping.specs.Keeping.{Keeps, RefusedUntouched, OneAnswer}
-
--- ---- what an event that is not refused has passed
-
-passed : (b : Bool) (n x : ℕ) → cond b (suc n) x ≡ 0 → (b ≡ false) × (x ≡ 0)
-passed true n x p = absurd (omega arith)
-passed false n x p = (refl, p)
-
-record Taken (m : Machine) (len w : ℕ) (e : Event) : Type 0 where
-  here : w < m .count
-  operands : operands-right e len ≡ true
-  allowed : refused-there (thread-of m w .control) (kind e) ≡ 0
-
-taken : (m : Machine) (len w : ℕ) (e : Event) → refusal m len w e ≡ 0 → Taken m len w e
-unfolding refusal refused-later
-taken m len w e p =
-    let c = passed (leb (m .count) w) 2 _ (passed (not (valid m len)) 1 _ (passed (not (sized m len)) 0 _ p .1) .1) in
-    let o = passed (not (operands-right e len)) 3 _ (c .1) in
-    record { here = leb-false _ _ (c .0); operands = not-false _ (o .0); allowed = o .1 }
 
 -- ---- the machine after it: the others as the event leaves them, its own thread made y
 
@@ -110,17 +92,18 @@ module _ (m : Machine) (len w : ℕ) (e : Event) (us : List Thread) (y : Thread)
   joined-right = record { sizes = r .sizes; four = length-set us w y ∙ four; each = each; clear = clear }
 
 -- an event that is not refused keeps the machine's parts, and memory's length
-perform-right : (m : Machine) (mem : List ℕ) (w : ℕ) (e : Event) → Right m (length mem) → Taken m (length mem) w e
+perform-right : (m : Machine) (mem : List ℕ) (w : ℕ) (e : Event) → valid m (length mem) ≡ true → refused-later m (length mem) w e ≡ 0
     → Right (perform m mem w e .done .machine) (length mem)
-unfolding perform sized
-perform-right m mem w e r k =
+unfolding perform
+perform-right m mem w e v p =
+    let len = length mem in
     let t = thread-of m w in
-    let a = and-left (memory-sized (length mem) && leb 1 (m .count)) _ (r .sizes) in
-    let z : memory-sized (length mem) ≡ true = and-left _ (leb 1 (m .count)) a in
-    let few : m .count ≤ most-threads = leb-true _ _ (and-right (memory-sized (length mem) && leb 1 (m .count)) _ (r .sizes)) in
-    let h : thread-valid t (length mem) ≡ true = rw (lt-ltb w (m .count) (k .here)) at (r .each w (omega arith)) in
-    joined-right m (length mem) w e _ (own e t mem .did .thread) r (k .here) few (strikes e t (m .threads) w)
-    (own-keeps e t mem z h (k .operands) (k .allowed)) (own-writes e t mem z h (k .operands)) (own-touches e t mem z h (k .operands))
+    let here = passed-thread m len w e p in
+    let z = valid-memory-sized m len v in
+    let h = valid-thread m len v w here in
+    let o = passed-operands m len w e p in
+    joined-right m len w e _ (own e t mem .did .thread) (valid-right m len v) here (valid-count m len v) (strikes e t (m .threads) w)
+    (own-keeps e t mem z h o (passed-there m len w e p)) (own-writes e t mem z h o) (own-touches e t mem z h o)
 
 perform-length : (m : Machine) (mem : List ℕ) (w : ℕ) (e : Event) → length (perform m mem w e .memory) ≡ length mem
 unfolding perform
@@ -132,16 +115,12 @@ Kept mem o = (length (o .memory) ≡ length mem) × (valid (o .done .machine) (l
 perform-keeps : (m : Machine) (mem : List ℕ) (w : ℕ) (e : Event) → valid m (length mem) ≡ true → refusal m (length mem) w e ≡ 0 → Kept mem (perform m mem w e)
 perform-keeps m mem w e v p = (
   perform-length m mem w e,
-  rw perform-length (right-valid _ _ (perform-right m mem w e (valid-right m (length mem) v) (taken m (length mem) w e p))),
+  rw perform-length (right-valid _ _ (perform-right m mem w e v (sym (refusal-valid m (length mem) w e v) ∙ p))),
 )
 
 pub keeps : Keeps
 unfolding step
-keeps m mem w e v = go (eqb (refusal m (length mem) w e) 0) refl
-  where
-    go : (b : Bool) → eqb (refusal m (length mem) w e) 0 ≡ b → Kept mem (cond b (perform m mem w e) (outcome (refusal m (length mem) w e) m mem))
-    go true p = perform-keeps m mem w e v (eqb-true _ _ p)
-    go false p = (refl, v)
+keeps m mem w e v = fork (Kept mem) (eqb (refusal m (length mem) w e) 0) (λ p. perform-keeps m mem w e v (eqb-true _ _ p)) (λ p. (refl, v))
 
 pub refused-untouched : RefusedUntouched
 unfolding step

@@ -6,8 +6,9 @@ use Prim.Native.Nat.{ℕ, _<_}
 use native.Mathlib.Omega.{arith}
 use lib.Dec.{eqb}
 use lib.ListN.{length}
-use borrow.Author.Tests.{eqb-true, eqb-false}
+use borrow.Author.Tests.{eqb-false}
 use Rattle.base.specs.Limits.{most-threads}
+use Rattle.base.proofs.Below.{still-false}
 use Rattle.lines.specs.Lines as lineset
 use Rattle.transaction.specs.Transaction as transaction
 use Rattle.transaction.specs.declared.Transaction.{Transaction}
@@ -17,10 +18,11 @@ use Rattle.event.specs.declared.Event.{Event}
 use Rattle.event.specs.declared.Event.the-variants.{Tbegin, Tend, Tabort, Tabortwc, Tabortdc, Tsr, Tcheck, Treclaim, Trechkpt, Mtspr, Mfspr, Ld, Std, Addi, Disallowed, Interrupt, Host}
 use Rattle.own.specs.Events.{overflows}
 use Rattle.machine.specs.Machine.{thread}
-use Rattle.machine.specs.Valid.{shaped, thread-valid, zero-thread}
+use Rattle.machine.specs.Valid.{thread-valid, zero-thread}
 use Rattle.machine.specs.Conflict.{struck, strike, others}
-use Rattle.keeping.proofs.Held.{Shaped, nothing-is-empty, empty-touches}
-use Rattle.keeping.proofs.Sets.{Stores, Loads, still-false, writes-touch}
+use Rattle.keeping.proofs.Held.{nothing-is-empty, empty-touches}
+use Rattle.keeping.proofs.Fails.{shaped-sets}
+use Rattle.keeping.proofs.Sets.{Stores, Loads, writes-touch}
 use Rattle.keeping.proofs.Struck.{struck-keeps, struck-zero, struck-writes, struck-touches, struck-written, struck-touched, strike-length, strike-other}
 
 -- ---- which threads an event strikes
@@ -85,12 +87,6 @@ abbrev pub Fits : Bool → Thread → ℕ → Type 0
 Fits c y len = cond c (thread-valid y len) (zero-thread y) ≡ true
 
 -- a record past the count holds nothing
-shaped-sets : (t : Thread) → shaped t ≡ true → Shaped (t .transaction)
-unfolding shaped
-shaped-sets t h =
-    let z = simp and-eq-true-iff at h in
-    record { reads = eqb-true _ _ (z .0 .0 .1); writes = eqb-true _ _ (z .0 .1); log = eqb-true _ _ (z .1) }
-
 zero-touches : (y : Thread) (l : ℕ) → zero-thread y ≡ true → transaction.touches (y .transaction) l ≡ false
 unfolding zero-thread
 zero-touches y l h =

@@ -1,15 +1,16 @@
 -- An event that is not refused keeps its own thread valid and memory's length.
 use mathlib.Core.Path.{_≡_, refl, ap}
-use mathlib.Core.Bool.{Bool, true, false, cond, and-eq-true-iff, true≢false}
+use mathlib.Core.Bool.{Bool, true, false, true≢false}
 use mathlib.Core.Logic.{inl, inr}
 use mathlib.Core.List.{List}
-use Prim.Native.Nat.{ℕ, suc, _%_, _≤_, _<_}
+use Prim.Native.Nat.{ℕ, _%_, _<_}
 use native.Mathlib.Omega.{arith}
 use lib.Dec.{eqb, leb}
 use lib.ListN.{length, length-set}
-use borrow.Author.Tests.{eqb-true, leb-true, leb-false, not-false}
+use borrow.Author.Tests.{eqb-true, leb-false, not-false}
 use Rattle.base.specs.Limits.{lines, most-levels}
 use Rattle.base.specs.Below.{bit}
+use Rattle.base.proofs.Below.{neither, fork, no-number, bit-lt}
 use Rattle.lines.proofs.Laws.{footprint-empty}
 use Rattle.transaction.specs.Transaction as transaction
 use Rattle.transaction.proofs.Laws.{commit-length}
@@ -26,12 +27,13 @@ use Rattle.thread.specs.declared.State.{State}
 use Rattle.thread.specs.declared.State.the-variants.{N, T, S}
 use Rattle.thread.specs.declared.Control.{Control}
 use Rattle.thread.specs.declared.Thread.{Thread}
-use Rattle.thread.proofs.Laws.{bit-lt, begun-fs, begun-tl}
+use Rattle.thread.proofs.Laws.{begun-fs, begun-tl}
 use Rattle.machine.specs.Valid.{memory-sized, thread-valid}
 use Rattle.machine.specs.Refusal.{host-in-t, off, forbidden, bad-thing, refused-there}
+use Rattle.machine.proofs.Validity.{memory-most}
 use Rattle.keeping.proofs.Held.{join-shaped, store-shaped, join-held, store-held, join-footprint, store-footprint}
 use Rattle.keeping.proofs.Fails.{Filed, Addressed, Live, Rules, Right, right, valid, doomed-empty, undoomed-live, empty-holds, handled, failure-t, failure-s}
-use Rattle.keeping.proofs.Anew.{fork, or-falses, ts-small, next-aligned, up, down, with-field, saved, with-controls, passed, from-state, with-gpr, with-cr, with-held}
+use Rattle.keeping.proofs.Anew.{ts-small, next-aligned, up, down, with-field, saved, with-controls, passed, from-state, with-gpr, with-cr, with-held}
 
 -- ---- memory's length
 
@@ -69,10 +71,7 @@ own-length (Host pr tm) t mem = refl
 
 -- an index in memory has a line
 pub line-below : (i len : ℕ) → memory-sized len ≡ true → i < len → transaction.line i < lines
-line-below i len z h =
-    let c = simp and-eq-true-iff at z in
-    let l : len ≤ 4096 = leb-true _ _ (c .1) in
-    omega arith
+line-below i len z h = omega (arith, memory-most len z)
 
 -- ---- each event on its own thread
 
@@ -129,7 +128,7 @@ module _ (t : Thread) (len : ℕ) where
         rules = (r .rules .0, refl);
         holds = empty-holds len;
       })))
-      (λ p. leveled-fine _ r (down (r .rules .1) (leb-false _ _ (or-falses a _ p .1))))
+      (λ p. leveled-fine _ r (down (r .rules .1) (leb-false _ _ (neither a _ p .1))))
   tend-fine S a mem r = cr0-only-fine r
 
   -- tabort. and its conditional forms
@@ -239,7 +238,7 @@ module _ (t : Thread) (len : ℕ) where
     unfolding logs std-overflows
     logs-fine v r =
         fork (Fine len) (std-overflows T t i) (λ p. fails-fine t len _ r)
-        (λ p. let q = or-falses _ _ p in
+        (λ p. let q = neither _ _ p in
         valid
         (passed
         (with-held _ r (store-footprint _ i v (r .holds .shape) below (q .0) (r .rules .1 .small))
@@ -269,11 +268,6 @@ module _ (t : Thread) (len : ℕ) where
   host-fine : {s : State} (pr tm : Bool) → Right s t len → Fine len (host t pr tm)
   unfolding host
   host-fine pr tm r = valid (with-controls r _ (r .is) (r .addresses) (r .rules))
-
--- the first number that refuses is 0 only where no test does
-no-number : (b : Bool) (n m : ℕ) → cond b (suc n) m ≡ 0 → (b ≡ false) × (m ≡ 0)
-no-number true n m p = absurd (let z : suc n ≡ 0 = p in omega arith)
-no-number false n m p = (refl, p)
 
 pub not-bad : (k : Control) (n : ℕ) → refused-there k n ≡ 0 → bad-thing (k .state) k n ≡ false
 unfolding refused-there

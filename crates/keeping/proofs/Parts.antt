@@ -6,7 +6,7 @@ use lib.Dec.{eqb, ltb}
 use lib.ListN.{length}
 use borrow.Author.Tests.{eq-eqb, eqb-true, eqb-false, ne-eqb, not-true}
 use Rattle.base.specs.Limits.{lines, most-threads}
-use Rattle.base.proofs.Below.{all-at, all-from}
+use Rattle.base.proofs.Below.{neither, all-at, all-from}
 use Rattle.lines.specs.Lines as lineset
 use Rattle.lines.specs.declared.LineSet.{LineSet}
 use Rattle.lines.proofs.Laws.{meets-none, meets-false-at}
@@ -16,7 +16,6 @@ use Rattle.thread.specs.declared.Thread.{Thread}
 use Rattle.machine.specs.Machine.{thread}
 use Rattle.machine.specs.Valid.{sized, clash, clear-of, apart, thread-right, threads-right, valid}
 use Rattle.machine.specs.declared.Machine.{Machine}
-use Rattle.keeping.proofs.Sets.{neither}
 use Rattle.keeping.proofs.Others.{Fits}
 
 -- a machine's thread v

@@ -1,15 +1,14 @@
 -- What an event adds to its own thread's sets: nothing, or the line of an access that does not overflow.
 use mathlib.Core.Path.{_≡_, refl, sym, ap, _∙_}
-use mathlib.Core.Bool.{Bool, true, false, cond, _&&_, _||_, or-assoc, or-comm, or-true, true≢false, false≢true}
+use mathlib.Core.Bool.{Bool, true, false, cond, _||_, or-assoc, or-comm, or-true, false≢true}
 use mathlib.Core.Logic.{_⊎_, inl, inr, ⊎-elim}
 use mathlib.Core.List.{List}
-use Prim.Native.Nat.{ℕ, _*_, _%_, _<_}
-use native.Mathlib.Omega.{arith}
+use Prim.Native.Nat.{ℕ, _<_}
 use lib.Dec.{eqb, leb}
 use lib.ListN.{length}
-use borrow.Author.Tests.{eqb-true, leb-true}
-use Rattle.base.specs.Limits.{line-size, lines, most-levels}
-use Rattle.base.proofs.Below.{and-right}
+use borrow.Author.Tests.{eqb-true}
+use Rattle.base.specs.Limits.{lines, most-levels}
+use Rattle.base.proofs.Below.{fork}
 use Rattle.lines.specs.Lines as lineset
 use Rattle.transaction.specs.Transaction as transaction
 use Rattle.transaction.specs.declared.Transaction.{Transaction}
@@ -18,7 +17,7 @@ use Rattle.thread.specs.Thread.{with-transaction, failed, recording, handling}
 use Rattle.thread.specs.declared.State.{State}
 use Rattle.thread.specs.declared.State.the-variants.{N, T, S}
 use Rattle.thread.specs.declared.Thread.{Thread}
-use Rattle.event.specs.Event.{access-right, operands-right}
+use Rattle.event.specs.Event.{operands-right}
 use Rattle.event.specs.declared.Event.{Event}
 use Rattle.event.specs.declared.Event.the-variants.{Tbegin, Tend, Tabort, Tabortwc, Tabortdc, Tsr, Tcheck, Treclaim, Trechkpt, Mtspr, Mfspr, Ld, Std, Addi, Disallowed, Interrupt, Host}
 use Rattle.event.proofs.Laws.{access-in}
@@ -28,6 +27,7 @@ use Rattle.own.specs.declared.Did.{Did}
 use Rattle.machine.specs.Valid.{memory-sized, thread-valid}
 use Rattle.keeping.proofs.Held.{Shaped, join-has, store-has, store-reads, empty-touches}
 use Rattle.keeping.proofs.Fails.{valid-shaped}
+use Rattle.keeping.proofs.Own.{line-below}
 
 -- a store to the line, and an access to the line, that do not overflow
 pub record Stores (e : Event) (t : Thread) (l : ℕ) : Type 0 where
@@ -43,21 +43,6 @@ pub record Loads (e : Event) (t : Thread) (l : ℕ) : Type 0 where
   pub is : e ≡ Ld rt index
   pub line : l ≡ transaction.line index
   pub made : overflows e t ≡ false
-
--- what holds of both choices holds of the one taken
-pub cond-keeps : {A : Type 0} (P : A → Type 0) (b : Bool) (x y : A) → P x → P y → P (cond b x y)
-cond-keeps P true x y p q = p
-cond-keeps P false x y p q = q
-
--- a test that fails before, and passes only where it passed, fails after
-pub still-false : (a b : Bool) → (b ≡ true → a ≡ true) → a ≡ false → b ≡ false
-still-false a true p q = sym (p refl) ∙ q
-still-false a false p q = refl
-
--- both sides of a test that fails
-pub neither : (a b : Bool) → (a || b) ≡ false → (a ≡ false) × (b ≡ false)
-neither true b p = absurd (true≢false p)
-neither false b p = (refl, p)
 
 -- ---- a transaction kept or emptied: its sets only lose lines
 
@@ -82,7 +67,7 @@ Shed t d = Sheds (t .transaction) (d .thread .transaction)
 module _ (t : Thread) where
   pub recording-sheds : (cause : ℕ) (exact : Bool) (at : ℕ) → Sheds (t .transaction) (recording t cause exact at .transaction)
   unfolding recording transaction.discard
-  recording-sheds cause exact at = cond-keeps (λ (u : Thread). Sheds (t .transaction) (u .transaction)) (failed (t .control)) t _ (inl refl) (inr refl)
+  recording-sheds cause exact at = fork (λ (u : Thread). Sheds (t .transaction) (u .transaction)) (failed (t .control)) (λ e. inl refl) (λ e. inr refl)
 
   pub handling-sheds : (cause : ℕ) (exact : Bool) (at : ℕ) → Sheds (t .transaction) (handling (recording t cause exact at) .transaction)
   unfolding handling
@@ -103,13 +88,13 @@ module _ (t : Thread) where
   tbegin-sheds : (s : State) (r : Bool) → Shed t (tbegin s t r)
   unfolding tbegin
   tbegin-sheds N r = inl refl
-  tbegin-sheds T r = cond-keeps (Shed t) (leb most-levels (tl (t .control .texasr))) _ _ (fails-sheds t _) (inl refl)
+  tbegin-sheds T r = fork (Shed t) (leb most-levels (tl (t .control .texasr))) (λ e. fails-sheds t _) (λ e. inl refl)
   tbegin-sheds S r = inl refl
 
   tend-sheds : (s : State) (a : Bool) (mem : List ℕ) → Shed t (tend s t a mem .did)
   unfolding tend transaction.discard
   tend-sheds N a mem = inl refl
-  tend-sheds T a mem = cond-keeps (λ (r : Ran). Shed t (r .did)) (commits t a) _ _ (inr refl) (inl refl)
+  tend-sheds T a mem = fork (λ (r : Ran). Shed t (r .did)) (commits t a) (λ e. inr refl) (λ e. inl refl)
   tend-sheds S a mem = inl refl
 
   tabort-sheds : (s : State) (cause : ℕ) → Shed t (tabort s t cause)
@@ -120,7 +105,7 @@ module _ (t : Thread) where
 
   tabort-if-sheds : (held : Bool) → Shed t (tabort-if t held)
   unfolding tabort-if
-  tabort-if-sheds held = cond-keeps (Shed t) held _ _ (tabort-sheds (t .control .state) _) (inl refl)
+  tabort-if-sheds held = fork (Shed t) held (λ e. tabort-sheds (t .control .state) _) (λ e. inl refl)
 
   tsuspend-sheds : (s : State) → Shed t (tsuspend s t)
   unfolding tsuspend
@@ -132,15 +117,15 @@ module _ (t : Thread) where
   unfolding tresume handling
   tresume-sheds N = inl refl
   tresume-sheds T = inl refl
-  tresume-sheds S = cond-keeps (Shed t) (t .control .doomed) _ _ (inl refl) (inl refl)
+  tresume-sheds S = fork (Shed t) (t .control .doomed) (λ e. inl refl) (λ e. inl refl)
 
   tsr-sheds : (l : Bool) → Shed t (tsr t l)
   unfolding tsr
-  tsr-sheds l = cond-keeps (Shed t) l _ _ (tresume-sheds (t .control .state)) (tsuspend-sheds (t .control .state))
+  tsr-sheds l = fork (Shed t) l (λ e. tresume-sheds (t .control .state)) (λ e. tsuspend-sheds (t .control .state))
 
   tcheck-sheds : (bf : ℕ) → Shed t (tcheck t bf)
   unfolding tcheck
-  tcheck-sheds bf = cond-keeps (λ (u : Thread). Sheds (t .transaction) (u .transaction)) (eqb bf 0) _ _ (inl refl) (inl refl)
+  tcheck-sheds bf = fork (λ (u : Thread). Sheds (t .transaction) (u .transaction)) (eqb bf 0) (λ e. inl refl) (λ e. inl refl)
 
   disallowed-sheds : (s : State) → Shed t (disallowed s t)
   unfolding disallowed
@@ -150,7 +135,7 @@ module _ (t : Thread) where
 
   meets-own-sheds : (i : ℕ) → Shed t (meets-own t i)
   unfolding meets-own
-  meets-own-sheds i = cond-keeps (Shed t) (transaction.touches (t .transaction) (transaction.line i)) _ _ (dooms-sheds t _) (inl refl)
+  meets-own-sheds i = fork (Shed t) (transaction.touches (t .transaction) (transaction.line i)) (λ e. dooms-sheds t _) (λ e. inl refl)
 
 -- ---- what an event leaves: its transaction kept, emptied, or with an access that does not overflow
 
@@ -169,8 +154,8 @@ module _ (t : Thread) (r i : ℕ) (mem : List ℕ) where
           → Leaves (Ld r i) t (cond b (fails t cause-footprint) (takes (cond (tracked t) (joins t i) t) r i mem) .thread .transaction)
       go true o = shed (fails-sheds t _)
       go false o =
-          cond-keeps (λ (u : Thread). Leaves (Ld r i) t (u .transaction)) (tracked t) (joins t i) t
-          (loaded r i refl (ap (λ (s : State). ld-overflows s t i) p ∙ o)) (shed (inl refl))
+          fork (λ (u : Thread). Leaves (Ld r i) t (u .transaction)) (tracked t)
+          (λ e. loaded r i refl (ap (λ (s : State). ld-overflows s t i) p ∙ o)) (λ e. shed (inl refl))
   ld-leaves S p = shed (inl refl)
 
   std-leaves : (s : State) (v : ℕ) → t .control .state ≡ s → Leaves (Std r i) t (std s t v i mem .did .thread .transaction)
@@ -211,22 +196,17 @@ added : (a : Bool) (l m : ℕ) → (a || eqb l m) ≡ true → (a ≡ true) ⊎ 
 added true l m p = inl refl
 added false l m p = inr (eqb-true l m p)
 
--- the line of an access lies below the lines
-line-below : (r i len : ℕ) → memory-sized len ≡ true → access-right r i len ≡ true → transaction.line i < lines
-line-below r i len z o =
-    omega (arith, leb-true len (line-size * lines) (and-right (eqb (len % line-size) 0 && leb line-size len) _ z), access-in r i len o)
-
 module _ (e : Event) (t : Thread) (mem : List ℕ) (z : memory-sized (length mem) ≡ true) (h : thread-valid t (length mem) ≡ true) (o : operands-right e (length mem) ≡ true) where
   shaped : Shaped (t .transaction)
   shaped = valid-shaped t (length mem) h
 
   ld-line : (rt i : ℕ) → e ≡ Ld rt i → transaction.line i < lines
   unfolding operands-right
-  ld-line rt i q = line-below rt i (length mem) z (rw q at o)
+  ld-line rt i q = line-below i (length mem) z (access-in rt i (length mem) (rw q at o) .1)
 
   std-line : (ra i : ℕ) → e ≡ Std ra i → transaction.line i < lines
   unfolding operands-right
-  std-line ra i q = line-below ra i (length mem) z (rw q at o)
+  std-line ra i q = line-below i (length mem) z (access-in ra i (length mem) (rw q at o) .1)
 
   -- what such a transaction adds to the write set, and to either set
   leaves-writes : (y : Transaction) (l : ℕ) → Leaves e t y → lineset.has (y .writes) l ≡ true → (lineset.has (t .transaction .writes) l ≡ true) ⊎ Stores e t l

@@ -10,6 +10,7 @@ use lib.Dec.{eqb}
 use lib.ListN.{length, set, length-set}
 use lib.Seq.{getD-set-same, getD-set-other}
 use borrow.Author.Tests.{eqb-false, ne-eqb}
+use Rattle.base.proofs.Below.{neither, fork}
 use Rattle.lines.specs.Lines as lineset
 use Rattle.lines.proofs.Laws.{has-empty}
 use Rattle.transaction.specs.Transaction as transaction
@@ -22,7 +23,7 @@ use Rattle.machine.specs.Machine.{thread, no-thread}
 use Rattle.machine.specs.Valid.{thread-valid, zero-state, zero-control, zero-thread}
 use Rattle.machine.specs.Conflict.{hits, other-recording, struck, strike}
 use Rattle.keeping.proofs.Fails.{live-unfailed-t, live-unfailed-s, held-nothing-n, held-nothing-s, failure-keeps-t, failure-keeps-s, failure-empties}
-use Rattle.keeping.proofs.Sets.{cond-keeps, neither, Sheds, sheds-writes, sheds-touches, recording-sheds, handling-sheds}
+use Rattle.keeping.proofs.Sets.{Sheds, sheds-writes, sheds-touches, recording-sheds, handling-sheds}
 
 -- a record past the count is in N
 pub zero-in-n : (t : Thread) → zero-thread t ≡ true → zero-state (t .control .state) ≡ true
@@ -40,10 +41,10 @@ module _ (t : Thread) (len : ℕ) (stores : Bool) (l cause : ℕ) where
   unfolding struck
   keeps N p h = h
   keeps T p h =
-      cond-keeps (λ (u : Thread). thread-valid u len ≡ true) (hits (t .transaction) stores l) _ t (failure-keeps-t t len cause false _ p h) h
+      fork (λ (u : Thread). thread-valid u len ≡ true) (hits (t .transaction) stores l) (λ e. failure-keeps-t t len cause false _ p h) (λ e. h)
   keeps S p h =
-      cond-keeps (λ (u : Thread). thread-valid u len ≡ true) (not (t .control .doomed) && hits (t .transaction) stores l) _ t
-      (failure-keeps-s t len cause false _ p h) h
+      fork (λ (u : Thread). thread-valid u len ≡ true) (not (t .control .doomed) && hits (t .transaction) stores l)
+      (λ e. failure-keeps-s t len cause false _ p h) (λ e. h)
 
   pub struck-keeps : thread-valid t len ≡ true → thread-valid (struck (t .control .state) t stores l cause) len ≡ true
   struck-keeps h = keeps (t .control .state) refl h
@@ -62,10 +63,10 @@ module _ (t : Thread) (len : ℕ) (stores : Bool) (l cause : ℕ) where
   sheds : (s : State) → Sheds (t .transaction) (struck s t stores l cause .transaction)
   unfolding struck
   sheds N = inl refl
-  sheds T = cond-keeps (λ (u : Thread). Sheds (t .transaction) (u .transaction)) (hits (t .transaction) stores l) _ t (handling-sheds t cause false _) (inl refl)
+  sheds T = fork (λ (u : Thread). Sheds (t .transaction) (u .transaction)) (hits (t .transaction) stores l) (λ e. handling-sheds t cause false _) (λ e. inl refl)
   sheds S =
-      cond-keeps (λ (u : Thread). Sheds (t .transaction) (u .transaction)) (not (t .control .doomed) && hits (t .transaction) stores l) _ t
-      (recording-sheds t cause false _) (inl refl)
+      fork (λ (u : Thread). Sheds (t .transaction) (u .transaction)) (not (t .control .doomed) && hits (t .transaction) stores l)
+      (λ e. recording-sheds t cause false _) (λ e. inl refl)
 
   pub struck-writes : (m : ℕ) → lineset.has (struck (t .control .state) t stores l cause .transaction .writes) m ≡ true → lineset.has (t .transaction .writes) m ≡ true
   struck-writes m p = sheds-writes (t .transaction) _ m (sheds (t .control .state)) p
@@ -115,7 +116,7 @@ module _ (ts : List Thread) (w : ℕ) (stores : Bool) (l cause : ℕ) where
   unfolding strike
   strike-length zero = refl
   strike-length (suc n) =
-      cond-keeps (λ (us : List Thread). length us ≡ length ts) (eqb n w) _ _ (strike-length n) (simp length-set (strike-length n))
+      fork (λ (us : List Thread). length us ≡ length ts) (eqb n w) (λ e. strike-length n) (λ e. simp length-set (strike-length n))
 
   pub strike-own : (n : ℕ) → thread (strike ts w stores l cause n) w ≡ thread ts w
   unfolding strike

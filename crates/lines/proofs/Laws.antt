@@ -17,8 +17,8 @@ use lib.Seq.{getD-set-same, getD-set-other, set-out}
 use borrow.Author.Tests.{eq-eqb, ne-eqb, eqb-true}
 use Rattle.base.specs.Limits.{lines, words}
 use Rattle.base.specs.Below.{bit, all-below, any-below, count-below}
-use Rattle.base.proofs.Below.{all-at, all-from, all-cong, all-add, any-at, any-false, any-false-at, any-witness, any-cong, any-add, count-low, count-cong, count-le, count-add, count-one, and-intro}
-use Rattle.lines.specs.Lines.{place, word, empty, has, with, meets, same, footprint, shared, alike, joined}
+use Rattle.base.proofs.Below.{all-at, all-from, all-cong, all-add, any-at, any-false, any-false-at, any-witness, any-cong, any-add, count-low, count-cong, count-le, count-add, count-one, and-intro, bit-lt, bit-test, digit-bit}
+use Rattle.lines.specs.Lines.{place, word, empty, has, with, meets, footprint, shared, alike, joined}
 use Rattle.lines.specs.declared.LineSet.{LineSet}
 
 -- ---- the places of a word
@@ -26,17 +26,6 @@ use Rattle.lines.specs.declared.LineSet.{LineSet}
 -- a digit is below 2
 digit : (n : ℕ) → n % 2 < 2
 digit n = mod-lt n (lit< tt)
-
--- a digit is the bit of the test whether it is 1
-digit-bit : (d : ℕ) → d < 2 → bit (eqb d 1) ≡ d
-digit-bit zero h = refl
-digit-bit (suc zero) h = refl
-digit-bit (suc (suc d)) h = absurd (let z : suc (suc d) < 2 = h in omega arith)
-
--- a bit is a digit, and tested so
-bit-digit : (b : Bool) → (bit b < 2) × (eqb (bit b) 1 ≡ b)
-bit-digit true = (lit< tt, refl)
-bit-digit false = (lit< tt, refl)
 
 -- the places of two words that are joined digit by digit
 module _ (op f : ℕ → ℕ → ℕ) (o : Bool → Bool → Bool)
@@ -51,7 +40,7 @@ module _ (op f : ℕ → ℕ → ℕ) (o : Bool → Bool → Bool)
       let c = o (place a i) (place b i) in
       let e : f (x % 2) (y % 2) ≡ bit c = (λ j. f (sym (digit-bit (x % 2) (digit x)) j) (sym (digit-bit (y % 2) (digit y)) j)) ∙ bits (place a i) (place b i) in
       ap (λ (n : ℕ). eqb (n % 2) 1) (shr a b i ∙ step x y ∙ ap (λ (n : ℕ). op (x / 2) (y / 2) * 2 + n) e)
-      ∙ ap (λ (n : ℕ). eqb n 1) (digits-mod (op (x / 2) (y / 2)) (bit-digit c .0)) ∙ bit-digit c .1
+      ∙ ap (λ (n : ℕ). eqb n 1) (digits-mod (op (x / 2) (y / 2)) (bit-lt c)) ∙ bit-test c
 
 pub or-place : (a b i : ℕ) → place (bitOr a b) i ≡ (place a i || place b i)
 or-place = op-place bitOr max _||_ or-shr or-step bits

@@ -1,14 +1,14 @@
 -- What a valid machine and an event that is not refused tell: sizes, the event's thread, its operands.
-use mathlib.Core.Path.{_≡_, refl}
+use mathlib.Core.Path.{_≡_}
 use mathlib.Core.List.{List}
-use mathlib.Core.Bool.{Bool, true, false, not, cond, _&&_}
+use mathlib.Core.Bool.{true, false, not, cond, _&&_}
 use Prim.Native.Nat.{ℕ, _*_, _%_, _≤_, _<_}
 use native.Mathlib.Omega.{arith}
 use lib.Dec.{eqb, leb}
 use lib.ListN.{length}
 use borrow.Author.Tests.{leb-true, leb-false, lt-ltb, not-false}
 use Rattle.base.specs.Limits.{line-size, lines, most-places, most-threads}
-use Rattle.base.proofs.Below.{and-left, and-right, all-at}
+use Rattle.base.proofs.Below.{and-left, and-right, no-number, all-at}
 use Rattle.event.specs.Event.{kind, operands-right}
 use Rattle.event.specs.declared.Event.{Event}
 use Rattle.machine.specs.Machine.{thread}
@@ -17,6 +17,10 @@ use Rattle.machine.specs.Refusal.{refused-there, refused-later, refusal}
 use Rattle.machine.specs.Step.{outcome, perform, step}
 use Rattle.machine.specs.declared.Machine.{Machine}
 use Rattle.machine.proofs.Laws.{unused-count}
+
+-- the most that a memory has
+pub memory-most : (len : ℕ) → memory-sized len ≡ true → len ≤ line-size * lines
+memory-most len z = leb-true len (line-size * lines) (and-right (eqb (len % line-size) 0 && leb line-size len) _ z)
 
 module _ (m : Machine) (len : ℕ) (v : valid m len ≡ true) where
   pub valid-sized : sized m len ≡ true
@@ -32,7 +36,7 @@ module _ (m : Machine) (len : ℕ) (v : valid m len ≡ true) where
   valid-memory-sized = and-left _ (leb 1 (m .count)) (and-left _ (leb (m .count) most-threads) valid-sized)
 
   pub valid-memory : len ≤ line-size * lines
-  valid-memory = leb-true len (line-size * lines) (and-right (eqb (len % line-size) 0 && leb line-size len) _ valid-memory-sized)
+  valid-memory = memory-most len valid-memory-sized
 
   pub valid-count : m .count ≤ most-threads
   unfolding sized
@@ -55,26 +59,21 @@ module _ (m : Machine) (len : ℕ) (v : valid m len ≡ true) where
 
 -- an event that passes the later tests has a thread, right operands, and passes those on its thread
 module _ (m : Machine) (len w : ℕ) (e : Event) (z : refused-later m len w e ≡ 0) where
-  -- a choice that gives 0 where its first number is not 0
-  passed : (b : Bool) (n k : ℕ) → (n ≡ 0 → ⊥) → cond b n k ≡ 0 → (b ≡ false) × (k ≡ 0)
-  passed true n k h p = absurd (h p)
-  passed false n k h p = (refl, p)
-
   there : cond (leb (m .count) w) 3 (cond (not (operands-right e len)) 4 (refused-there (thread (m .threads) w .control) (kind e))) ≡ 0
   unfolding refused-later
   there = z
 
   pub passed-thread : w < m .count
-  passed-thread = leb-false (m .count) w (passed _ 3 _ (λ p. omega arith) there .0)
+  passed-thread = leb-false (m .count) w (no-number _ 2 _ there .0)
 
   after-thread : cond (not (operands-right e len)) 4 (refused-there (thread (m .threads) w .control) (kind e)) ≡ 0
-  after-thread = passed (leb (m .count) w) 3 _ (λ p. omega arith) there .1
+  after-thread = no-number (leb (m .count) w) 2 _ there .1
 
   pub passed-operands : operands-right e len ≡ true
-  passed-operands = not-false (operands-right e len) (passed _ 4 _ (λ p. omega arith) after-thread .0)
+  passed-operands = not-false (operands-right e len) (no-number _ 3 _ after-thread .0)
 
   pub passed-there : refused-there (thread (m .threads) w .control) (kind e) ≡ 0
-  passed-there = passed (not (operands-right e len)) 4 _ (λ p. omega arith) after-thread .1
+  passed-there = no-number (not (operands-right e len)) 3 _ after-thread .1
 
 -- the step of a refused event, and of one that passes
 module _ (m : Machine) (mem : List ℕ) (w : ℕ) (e : Event) where

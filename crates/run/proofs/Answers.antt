@@ -1,23 +1,23 @@
 -- An event that is done answers 0, 20 or 21.
 use mathlib.Core.Path.{_≡_, refl}
-use mathlib.Core.Bool.{Bool, true, cond}
+use mathlib.Core.Bool.{Bool, true}
 use mathlib.Core.List.{List}
-use Prim.Native.Nat.{ℕ, _+_}
+use Prim.Native.Nat.{ℕ}
 use lib.Dec.{leb}
 use Rattle.base.specs.Limits.{most-levels}
+use Rattle.base.proofs.Below.{fork}
 use Rattle.transaction.specs.Transaction as transaction
 use Rattle.thread.specs.Texasr.{tl, cause-nesting, cause-footprint, cause-self}
 use Rattle.event.specs.declared.Event.{Event}
 use Rattle.event.specs.declared.Event.the-variants.{Tbegin, Tend, Tabort, Tabortwc, Tabortdc, Tsr, Tcheck, Treclaim, Trechkpt, Mtspr, Mfspr, Ld, Std, Addi, Disallowed, Interrupt, Host}
-use Rattle.thread.specs.Thread.{with-transaction, failed}
+use Rattle.thread.specs.Thread.{failed}
 use Rattle.thread.specs.declared.State.{State}
 use Rattle.thread.specs.declared.State.the-variants.{N, T, S}
 use Rattle.thread.specs.declared.Thread.{Thread}
-use Rattle.own.specs.Own.{Ran, passes, cr0-from-state, gpr, fails, dooms}
+use Rattle.own.specs.Own.{Ran, cr0-from-state, gpr, fails, dooms}
 use Rattle.own.specs.Compare.{holds-in-words, holds-in-doublewords}
-use Rattle.own.specs.Events.{leveled, tbegin, commits, tend, abort-cause, tabort, tabort-if, tsuspend, tresume, tsr, tcheck, treclaim, trechkpt, mtspr, mfspr, ld-overflows, std-overflows, tracked, takes, joins, ld, logs, meets-own, std, addi, disallowed, interrupt, host, own}
+use Rattle.own.specs.Events.{tbegin, commits, tend, abort-cause, tabort, tabort-if, tsuspend, tresume, tsr, tcheck, treclaim, trechkpt, mtspr, mfspr, ld-overflows, std-overflows, ld, logs, meets-own, std, addi, disallowed, interrupt, host, own}
 use Rattle.own.specs.declared.Did.{Did}
-use Rattle.keeping.proofs.Sets.{cond-keeps}
 use Rattle.run.specs.Run.{goes-on}
 
 abbrev Done : Did → Type 0
@@ -32,19 +32,19 @@ fails-done t cause = refl
 
 dooms-done : (t : Thread) (cause : ℕ) → Done (dooms t cause)
 unfolding dooms
-dooms-done t cause = cond-keeps (λ (n : ℕ). goes-on n ≡ true) (failed (t .control)) 0 21 refl refl
+dooms-done t cause = fork (λ (n : ℕ). goes-on n ≡ true) (failed (t .control)) (λ e. refl) (λ e. refl)
 
 tbegin-done : (s : State) (t : Thread) (r : Bool) → Done (tbegin s t r)
 unfolding tbegin
 tbegin-done N t r = refl
 tbegin-done T t r =
-    cond-keeps Done (leb most-levels (tl (t .control .texasr))) (fails t cause-nesting) (leveled t (t .control .texasr + 1)) (fails-done t cause-nesting) refl
+    fork Done (leb most-levels (tl (t .control .texasr))) (λ e. fails-done t cause-nesting) (λ e. refl)
 tbegin-done S t r = refl
 
 tend-done : (s : State) (t : Thread) (a : Bool) (mem : List ℕ) → DoneRan (tend s t a mem)
 unfolding tend
 tend-done N t a mem = refl
-tend-done T t a mem = cond-keeps DoneRan (commits t a) _ _ refl refl
+tend-done T t a mem = fork DoneRan (commits t a) (λ e. refl) (λ e. refl)
 tend-done S t a mem = refl
 
 tabort-done : (s : State) (t : Thread) (cause : ℕ) → Done (tabort s t cause)
@@ -55,7 +55,7 @@ tabort-done S t cause = dooms-done (cr0-from-state t) cause
 
 tabort-if-done : (t : Thread) (held : Bool) → Done (tabort-if t held)
 unfolding tabort-if
-tabort-if-done t held = cond-keeps Done held _ _ (tabort-done (t .control .state) t _) refl
+tabort-if-done t held = fork Done held (λ e. tabort-done (t .control .state) t _) (λ e. refl)
 
 tsuspend-done : (s : State) (t : Thread) → Done (tsuspend s t)
 unfolding tsuspend
@@ -67,21 +67,21 @@ tresume-done : (s : State) (t : Thread) → Done (tresume s t)
 unfolding tresume
 tresume-done N t = refl
 tresume-done T t = refl
-tresume-done S t = cond-keeps Done (t .control .doomed) _ _ refl refl
+tresume-done S t = fork Done (t .control .doomed) (λ e. refl) (λ e. refl)
 
 ld-done : (s : State) (t : Thread) (rt i : ℕ) (mem : List ℕ) → Done (ld s t rt i mem)
 unfolding ld
 ld-done N t rt i mem = refl
 ld-done T t rt i mem =
-    cond-keeps Done (ld-overflows T t i) (fails t cause-footprint) (takes (cond (tracked t) (joins t i) t) rt i mem) (fails-done t cause-footprint) refl
+    fork Done (ld-overflows T t i) (λ e. fails-done t cause-footprint) (λ e. refl)
 ld-done S t rt i mem = refl
 
 std-done : (s : State) (t : Thread) (v i : ℕ) (mem : List ℕ) → DoneRan (std s t v i mem)
 unfolding std logs meets-own
 std-done N t v i mem = refl
 std-done T t v i mem =
-    cond-keeps Done (std-overflows T t i) (fails t cause-footprint) (passes (with-transaction t (transaction.store (t .transaction) i v))) (fails-done t cause-footprint) refl
-std-done S t v i mem = cond-keeps Done (transaction.touches (t .transaction) (transaction.line i)) (dooms t cause-self) (passes t) (dooms-done t cause-self) refl
+    fork Done (std-overflows T t i) (λ e. fails-done t cause-footprint) (λ e. refl)
+std-done S t v i mem = fork Done (transaction.touches (t .transaction) (transaction.line i)) (λ e. dooms-done t cause-self) (λ e. refl)
 
 disallowed-done : (s : State) (t : Thread) → Done (disallowed s t)
 unfolding disallowed
@@ -96,7 +96,7 @@ own-done (Tend a) t mem = tend-done (t .control .state) t a mem
 own-done (Tabort ra) t mem = tabort-done (t .control .state) t (abort-cause t ra)
 own-done (Tabortwc to ra rb) t mem = tabort-if-done t (holds-in-words to (gpr t ra) (gpr t rb))
 own-done (Tabortdc to ra rb) t mem = tabort-if-done t (holds-in-doublewords to (gpr t ra) (gpr t rb))
-own-done (Tsr l) t mem = cond-keeps Done l _ _ (tresume-done (t .control .state) t) (tsuspend-done (t .control .state) t)
+own-done (Tsr l) t mem = fork Done l (λ e. tresume-done (t .control .state) t) (λ e. tsuspend-done (t .control .state) t)
 own-done (Tcheck bf) t mem = refl
 own-done (Treclaim ra) t mem = refl
 own-done Trechkpt t mem = refl

@@ -8,6 +8,7 @@ use native.Mathlib.Omega.{arith}
 use borrow.Author.Tests.{eq-eqb, ne-eqb, eqb-true}
 use lib.Dec.{eqb}
 use lib.ListN.{length}
+use Rattle.base.proofs.Below.{fork}
 use Rattle.event.specs.declared.Event.{Event}
 use Rattle.machine.specs.Machine.{thread}
 use Rattle.machine.specs.Valid.{sized, valid}
@@ -20,7 +21,6 @@ use Rattle.tape.specs.declared.Read.{Read}
 use Rattle.tape.specs.declared.Read.the-variants.{Record, Refused}
 use Rattle.run.specs.Run.{Result, result, goes-on, record-at, counted, one, run-from, run}
 use Rattle.run.specs.Steps.{fed, events, RunIsSteps, StopChangesNothing}
-use Rattle.keeping.proofs.Sets.{cond-keeps}
 use Rattle.run.proofs.Laws.{is-counted, not-counted, run-stops, run-goes}
 use Rattle.run.proofs.Answers.{own-done}
 
@@ -116,9 +116,9 @@ unfolding run
 run-after m mem tape =
     let o = outcome 0 m mem in
     let left : (n : ℕ) → After tape 0 o (result n 0 m mem) = λ n. nothing tape 0 o (result n 0 m mem) refl refl refl in
-    cond-keeps (After tape 0 o) (not (sized m (length mem))) _ _ (left 1)
-    (cond-keeps (After tape 0 o) (not (valid m (length mem))) _ _ (left 2)
-    (cond-keeps (After tape 0 o) (not (eqb (length tape % record-size) 0)) _ _ (left 6) (steps (length tape / record-size) tape 0 o)))
+    fork (After tape 0 o) (not (sized m (length mem))) (λ e. left 1)
+    (λ e. fork (After tape 0 o) (not (valid m (length mem))) (λ e. left 2)
+    (λ e. fork (After tape 0 o) (not (eqb (length tape % record-size) 0)) (λ e. left 6) (λ e. steps (length tape / record-size) tape 0 o)))
 
 pub run-is-steps : RunIsSteps
 run-is-steps m mem tape =

@@ -21,6 +21,7 @@ use Rattle.run.specs.Run.{Result, result, goes-on, record-at, counted, one, run
 use Rattle.run.specs.Steps.{fed, events}
 use Rattle.secrecy.specs.Secrecy.{Alike, Agree, Until}
 use Rattle.secrecy.specs.Runs.{SameRun, RunsSame}
+use Rattle.secrecy.proofs.Own.{both}
 use Rattle.secrecy.proofs.Step.{one-event}
 
 same : (r : Result) → SameRun r r
@@ -28,11 +29,7 @@ same r = record { answer = refl; count = refl; memory = refl }
 
 -- one of two ends, by a test that is the same
 chosen : (b c : Bool) → b ≡ c → (r s x y : Result) → SameRun r s → SameRun x y → SameRun (cond b r x) (cond c s y)
-chosen b c e r s x y p q = subst (λ (d : Bool). SameRun (cond b r x) (cond d s y)) e (go b)
-  where
-    go : (d : Bool) → SameRun (cond d r x) (cond d s y)
-    go true = p
-    go false = q
+chosen b c e r s x y p q = subst (λ (d : Bool). SameRun (cond b r x) (cond d s y)) e (both SameRun b (λ z. p) (λ z. q))
 
 stops : (b : Bool) → b ≡ true → (r s x y : Result) → SameRun r s → SameRun (cond b r x) (cond b s y)
 stops true e r s x y p = p

@@ -10,7 +10,7 @@ use lib.Dec.{eqb, leb}
 use lib.ListN.{length}
 use borrow.Author.Tests.{leb-true, eqb-true, eq-eqb, ne-eqb}
 use Rattle.base.specs.Below.{bit}
-use Rattle.base.proofs.Below.{and-left, and-right, and-intro}
+use Rattle.base.proofs.Below.{and-left, and-right, and-intro, digit-bit}
 use Rattle.event.specs.declared.Event.{Event}
 use Rattle.event.specs.declared.Event.the-variants.{Tbegin, Tend, Tabort, Tabortwc, Tabortdc, Tsr, Tcheck, Treclaim, Trechkpt, Mtspr, Mfspr, Ld, Std, Addi, Disallowed, Interrupt, Host}
 use Rattle.tape.specs.Fields.{kind-right, one-of, uses-x, uses-ra, uses-rb, uses-index, uses-si, most-flags, clear-but, unused-clear, event-of, fields, fields-of}
@@ -140,12 +140,7 @@ used-kept : (u : Bool) (v : ℕ) → (u || eqb v 0) ≡ true → cond u v 0 ≡ 
 used-kept true v p = refl
 used-kept false v p = sym (eqb-true v 0 p)
 
--- flags of one bit, and of two
-one-bit : (n : ℕ) → n ≤ 1 → bit (eqb n 1) ≡ n
-one-bit zero h = refl
-one-bit (suc zero) h = refl
-one-bit (suc (suc n)) h = absurd (omega arith)
-
+-- flags of two bits
 two-bits : (n : ℕ) → n ≤ 3 → bit (eqb (n % 2) 1) + 2 * bit (eqb (n / 2 % 2) 1) ≡ n
 two-bits zero h = refl
 two-bits (suc zero) h = refl
@@ -158,7 +153,7 @@ flags-back k n p = go (one-of k (1 ∷ 2 ∷ 6 ∷ [])) (eqb k 17) (leb-true n _
   where
     go : (a b : Bool) → n ≤ cond a 1 (cond b 3 0)
         → cond a (bit (eqb n 1)) (cond b (bit (eqb (n % 2) 1) + 2 * bit (eqb (n / 2 % 2) 1)) 0) ≡ n
-    go true b h = one-bit n h
+    go true b h = digit-bit n (omega arith)
     go false true h = two-bits n h
     go false false h = omega arith
 

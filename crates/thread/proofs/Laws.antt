@@ -1,21 +1,17 @@
 -- Laws of TEXASR's fields, of recording and of handling.
-use mathlib.Core.Path.{_≡_, refl, sym, ap, _∙_}
-use mathlib.Core.Bool.{Bool, true, false, cond}
-use Prim.Native.Nat.{ℕ, _+_, _*_, _%_, _<_, _^_}
+use mathlib.Core.Path.{_≡_, refl, ap, _∙_}
+use mathlib.Core.Bool.{Bool, true, false}
+use Prim.Native.Nat.{ℕ, _<_, _^_}
 use native.Mathlib.Omega.{arith}
-use borrow.Author.Tests.{eq-eqb, eqb-true, eqb-false, ne-eqb}
-use lib.Dec.{eqb}
+use borrow.Author.Tests.{eq-eqb}
 use Rattle.base.specs.Below.{bit}
+use Rattle.base.proofs.Below.{bit-lt}
 use Rattle.thread.specs.Texasr.{fs, rot, tl, upper, packed, begun}
-use Rattle.thread.specs.Thread.{failed, suspended, noted, recording, handling}
+use Rattle.thread.specs.Thread.{failed, suspended, noted, recording}
 use Rattle.thread.specs.declared.State.{State}
 use Rattle.thread.specs.declared.State.the-variants.{N, T, S}
 use Rattle.thread.specs.declared.Control.{Control}
 use Rattle.thread.specs.declared.Thread.{Thread}
-
-pub bit-lt : (b : Bool) → bit b < 2
-bit-lt true = omega arith
-bit-lt false = omega arith
 
 pub suspended-lt : (s : State) → suspended s < 2
 suspended-lt N = omega arith

@@ -1,5 +1,4 @@
 -- `host::entries::naszeptan_run` meets its contract.
-use mathlib.Core.Path.{sym, _∙_}
 use Rattle.base.proofs.Below.{flag-true, flag-false}
 use Rattle.host.specs.Host.{run}
 use borrow.Author.Needs.{needs}

@@ -1,18 +1,17 @@
 -- `machine::held::logged` meets its contract: after i turns the set has the lines of the first i places.
 use borrow.Author.Needs.{needs}
-use borrow.Author.Tests.{eq-eqb, ne-eqb}
+use borrow.Author.Tests.{ne-eqb}
 use mathlib.Core.Path.{_≡_, refl, sym, ap, subst, _∙_}
 use mathlib.Core.Bool.{Bool, _||_, or-comm, or-false}
 use mathlib.Core.List.{List}
 use mathlib.Core.Logic.{⊎-elim}
 use Prim.Native.Nat.{ℕ, _+_, _-_, _/_, _≤_, _<_}
-use native.Mathlib.Decide.{ℕ-discrete}
 use native.Mathlib.Omega.{arith}
 use lib.Dec.{eqb}
 use lib.ListN.{length}
 use Rattle.base.specs.Below.{any-below}
 use Rattle.base.specs.Limits.{lines, words}
-use Rattle.base.proofs.Below.{any-none, any-step}
+use Rattle.base.proofs.Below.{any-none, any-step, eqb-comm}
 use Rattle.lines.specs.Lines.{empty, has, with}
 use Rattle.lines.specs.declared.LineSet.{LineSet}
 use Rattle.lines.proofs.Laws.{has-empty, has-with, length-with}
@@ -21,14 +20,6 @@ use Rattle.transaction.specs.declared.Entry.{Entry}
 use Rattle.machine.specs.Valid.{logs-line}
 use Rattle.machine.proofs.held.logged.Statement.{statement}
 use Rattle.machine.proofs.held.logged.Tie as tie
-
--- equality is tested either way round
-eqb-comm : (m n : ℕ) → eqb m n ≡ eqb n m
-eqb-comm m n = go (ℕ-discrete m n)
-  where
-    go : Dec (m ≡ n) → eqb m n ≡ eqb n m
-    go (yes e) = eq-eqb m n e ∙ sym (eq-eqb n m (sym e))
-    go (no d) = ne-eqb m n d ∙ sym (ne-eqb n m (λ e. d (sym e)))
 
 -- place n has the line
 abbrev there : List Entry → ℕ → ℕ → Bool
