@@ -52,5 +52,7 @@ else
     RUSTDOC=$(dirname "$RUSTC")/rustdoc
     export RUSTC RUSTDOC CARGO_BUILD_TARGET=$target NASZEPTAN_EMULATED=1
     export CARGO_TARGET_X86_64_UNKNOWN_LINUX_GNU_LINKER=$CC CARGO_TARGET_X86_64_UNKNOWN_LINUX_GNU_RUNNER=$RUN
+    # The emulator slows a process of several threads down: it then orders memory accesses by barriers.
+    export RUST_TEST_THREADS=${RUST_TEST_THREADS:-1}
 fi
 export CARGO_NET_OFFLINE=true

@@ -218,3 +218,38 @@ fn tapes_for_the_reader_are_those_of_the_tests() {
         assert_eq!(shown, tested, "{tape}");
     }
 }
+
+/// What a tape's text says that the program writes; ".." stands for lines left out.
+fn told(text: &str) -> Vec<&str> {
+    let lines = text.lines();
+    let behind = lines.skip_while(|line| !line.contains("The program writes"));
+    behind
+        .filter_map(|line| line.strip_prefix("    "))
+        .collect()
+}
+
+#[test]
+fn texts_beside_the_tapes_agree() {
+    let mut tapes = 0;
+    for file in fs::read_dir(crates().join("../tapes")).expect("the tapes") {
+        let path = file.expect("a file").path();
+        if path.extension().is_none_or(|e| e != "tape") {
+            continue;
+        }
+        let given = model::program(&fs::read(&path).expect("the tape"));
+        let given: Vec<&str> = given.lines().collect();
+        let text = fs::read_to_string(path.with_extension("txt")).expect("the text");
+        let told = told(&text);
+        let mut parts = told.split(|line| *line == "..");
+        let start = parts.next().unwrap_or_default();
+        assert!(!start.is_empty(), "{path:?}");
+        match parts.next() {
+            None => assert_eq!(given, start, "{path:?}"),
+            Some(end) => {
+                assert!(given.starts_with(start) && given.ends_with(end), "{path:?}");
+            }
+        }
+        tapes += 1;
+    }
+    assert_eq!(tapes, 9);
+}

@@ -54,6 +54,27 @@ impl Bench {
         b
     }
 
+    /// Thread 0 in T.
+    fn begun() -> Bench {
+        let mut b = Bench::fresh();
+        b.done(TBEGIN);
+        b
+    }
+
+    /// Thread 0 suspended with a live transaction.
+    fn suspended() -> Bench {
+        let mut b = Bench::begun();
+        b.done(TSUSPEND);
+        b
+    }
+
+    /// Thread 0 suspended and doomed.
+    fn doomed() -> Bench {
+        let mut b = Bench::suspended();
+        b.gives(TABORT, 21);
+        b
+    }
+
     fn thread(&self, n: usize) -> &Thread {
         &self.m.threads[n]
     }
@@ -78,6 +99,15 @@ impl Bench {
     /// Does an event of thread 0 and checks its answer.
     fn gives(&mut self, e: Event, number: u8) -> &mut Bench {
         assert_eq!(self.step(0, e), number, "{e:?}");
+        self
+    }
+
+    /// Does an event of thread 0 that is to give 0 and to change its record
+    /// to this one alone.
+    fn makes(&mut self, e: Event, expected: impl FnOnce(Thread) -> Thread) -> &mut Bench {
+        let expected = expected(self.thread(0).clone());
+        self.done(e);
+        assert_eq!(*self.thread(0), expected, "{e:?}");
         self
     }
 

@@ -1,0 +1,172 @@
+//! Events for a machine, and events with any operands.
+
+use super::machines::line;
+use super::rng::Rng;
+use crate::machine::{Machine, Thread, LINE, LOG, THREADS};
+use crate::Event;
+
+fn register(rng: &mut Rng) -> u8 {
+    let any = rng.byte();
+    if rng.one_in(64) {
+        rng.pick([32, 33, 64, 255, any])
+    } else {
+        rng.pick([0, 0, 1, 2, 3, 31, any & 31, any & 31])
+    }
+}
+
+/// Some line of the thread's sets.
+fn line_of(rng: &mut Rng, t: &Thread, lines: usize) -> Option<usize> {
+    let both = t.reads.union(&t.writes);
+    let from = rng.below(lines);
+    (from..lines).chain(0..from).find(|&l| both.contains(l))
+}
+
+/// An index for an access by this thread: in its log, its lines, another
+/// thread's lines, anywhere, and sometimes out of memory.
+fn index(rng: &mut Rng, m: &Machine, len: usize, thread: u8) -> u32 {
+    let lines = (len / LINE).max(1);
+    let count = m.count.clamp(1, THREADS);
+    let me = usize::from(thread) % count;
+    let t = &m.threads[me];
+    let o = &m.threads[(me + 1 + rng.below(count)) % count];
+    let within = rng.below(LINE);
+    let i = match rng.below(16) {
+        0..=2 => {
+            let used = &t.log[..t.count.min(LOG)];
+            used.get(rng.below(used.len()))
+                .map(|e| e.index as usize)
+                .unwrap_or(within)
+        }
+        3..=5 => line_of(rng, t, lines).unwrap_or(0) * LINE + within,
+        6..=8 => line_of(rng, o, lines).unwrap_or(0) * LINE + within,
+        9..=10 => line(rng, lines) * LINE + within,
+        11..=14 => rng.below(len),
+        _ => {
+            let any = rng.bits() as usize;
+            rng.pick([
+                len.saturating_sub(1),
+                0,
+                len,
+                len + 1,
+                u32::MAX as usize,
+                any,
+            ])
+        }
+    };
+    i as u32
+}
+
+/// An event for this machine with a memory of `len`: mostly of a thread that
+/// is there, with operands in range.
+pub fn event(rng: &mut Rng, m: &Machine, len: usize) -> (u8, Event) {
+    let count = m.count.clamp(1, THREADS);
+    let any = rng.byte();
+    let thread = if rng.one_in(48) {
+        rng.pick([count as u8, 4, 255, any])
+    } else {
+        rng.below(count) as u8
+    };
+    let kind = rng.pick([
+        1, 2, 3, 4, 5, 6, 7, 8, 9, 10, 11, 12, 13, 14, 15, 16, 17, 1, 2, 6, 12, 12, 13, 13, 13,
+    ]);
+    (thread, event_of(rng, m, len, thread, kind))
+}
+
+/// An event of this kind, 1 to 17, for this machine; other numbers give 17.
+pub fn event_of(rng: &mut Rng, m: &Machine, len: usize, thread: u8, kind: u8) -> Event {
+    let any = rng.byte();
+    let unlikely = rng.one_in(48);
+    let to = if unlikely {
+        rng.pick([32, 33, 64, 255, any])
+    } else {
+        rng.pick([16, 8, 4, 2, 1, 0, 31, any & 31, any & 31])
+    };
+    let bf = if unlikely {
+        rng.pick([8, 9, 255, any])
+    } else {
+        any & 7
+    };
+    let spr = if unlikely {
+        rng.pick([0, 1, 127, 132, 255, any])
+    } else {
+        128 + (any & 3)
+    };
+    match kind {
+        1 => Event::Tbegin { r: rng.flag() },
+        2 => Event::Tend { a: rng.flag() },
+        3 => Event::Tabort { ra: register(rng) },
+        4 => Event::Tabortwc {
+            to,
+            ra: register(rng),
+            rb: register(rng),
+        },
+        5 => Event::Tabortdc {
+            to,
+            ra: register(rng),
+            rb: register(rng),
+        },
+        6 => Event::Tsr { l: rng.flag() },
+        7 => Event::Tcheck { bf },
+        8 => Event::Treclaim { ra: register(rng) },
+        9 => Event::Trechkpt,
+        10 => Event::Mtspr {
+            spr,
+            ra: register(rng),
+        },
+        11 => Event::Mfspr {
+            rt: register(rng),
+            spr,
+        },
+        12 => Event::Ld {
+            rt: register(rng),
+            index: index(rng, m, len, thread),
+        },
+        13 => Event::Std {
+            ra: register(rng),
+            index: index(rng, m, len, thread),
+        },
+        14 => {
+            let si = rng.bits() as u16;
+            Event::Addi {
+                rt: register(rng),
+                ra: register(rng),
+                si: rng.pick([0, 1, 0x7FFF, 0x8000, 0xFFFF, si]),
+            }
+        }
+        15 => Event::Disallowed,
+        16 => Event::Interrupt,
+        _ => Event::Host {
+            pr: rng.flag(),
+            tm: rng.flag() || rng.flag(),
+        },
+    }
+}
+
+/// An event with any operands at all.
+pub fn any_event(rng: &mut Rng) -> (u8, Event) {
+    let [ra, x, rb, one, two, thread, ..] = rng.bits().to_be_bytes();
+    let index = rng.bits() as u32;
+    let si = rng.bits() as u16;
+    let one = one & 1 != 0;
+    let two = two & 1 != 0;
+    let e = match 1 + rng.below(17) {
+        1 => Event::Tbegin { r: one },
+        2 => Event::Tend { a: one },
+        3 => Event::Tabort { ra },
+        4 => Event::Tabortwc { to: x, ra, rb },
+        5 => Event::Tabortdc { to: x, ra, rb },
+        6 => Event::Tsr { l: one },
+        7 => Event::Tcheck { bf: x },
+        8 => Event::Treclaim { ra },
+        9 => Event::Trechkpt,
+        10 => Event::Mtspr { spr: x, ra },
+        11 => Event::Mfspr { rt: ra, spr: x },
+        12 => Event::Ld { rt: ra, index },
+        13 => Event::Std { ra, index },
+        14 => Event::Addi { rt: ra, ra: x, si },
+        15 => Event::Disallowed,
+        16 => Event::Interrupt,
+        _ => Event::Host { pr: one, tm: two },
+    };
+    (thread, e)
+}

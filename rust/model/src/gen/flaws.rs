@@ -1,0 +1,155 @@
+//! Machines that are not valid, or of a wrong shape, and the ways to be so.
+
+use super::machines::{line, valid_machine};
+use super::rng::{value, Rng};
+use crate::machine::{texasr, Entry, Machine, State, LINE, THREADS};
+
+/// One way in which a machine is not valid, or in which its shape is wrong.
+#[derive(Clone, Copy, PartialEq, Eq, Debug)]
+pub enum Flaw {
+    /// A wrong thread count (the number 1).
+    ThreadCount,
+    /// A wrong memory length (the number 1).
+    MemoryLength,
+    /// More than 64 log places in use.
+    LogCount,
+    /// An unused log place that is not zero.
+    UnusedPlace,
+    /// A thread record past the count that is not zero.
+    PastCount,
+    NiaLowBits,
+    TfharLowBits,
+    Cr0Big,
+    LiveCrBig,
+    CheckpointCrBig,
+    DoomedInN,
+    DoomedInT,
+    /// A read set where there is no live transaction.
+    ReadsNotLive,
+    /// A write set and its log where there is no live transaction.
+    WritesNotLive,
+    /// A log with no write set where there is no live transaction.
+    LogNotLive,
+    /// FS = 1 in a live transaction.
+    FailedLive,
+    /// A level not 1 to 15 in a live transaction.
+    LevelLive,
+    /// More than 32 lines in a live transaction.
+    FootprintLive,
+    /// FS = 0 in S with TDOOMED = 1.
+    DoomedNotFailed,
+    /// A log index, and its line, out of memory.
+    IndexOutside,
+    /// A line of the read set out of memory.
+    LineOutside,
+    /// Two log places with the same index.
+    SameIndex,
+    /// A line in the write set with no index in the log.
+    LineNotLogged,
+    /// An index in the log whose line is not in the write set.
+    IndexNotWritten,
+    /// A line written by one thread and read by another.
+    WriteAgainstRead,
+    /// A line written by two threads.
+    WriteAgainstWrite,
+}
+
+impl Flaw {
+    pub const ALL: [Flaw; 26] = [
+        Flaw::ThreadCount,
+        Flaw::MemoryLength,
+        Flaw::LogCount,
+        Flaw::UnusedPlace,
+        Flaw::PastCount,
+        Flaw::NiaLowBits,
+        Flaw::TfharLowBits,
+        Flaw::Cr0Big,
+        Flaw::LiveCrBig,
+        Flaw::CheckpointCrBig,
+        Flaw::DoomedInN,
+        Flaw::DoomedInT,
+        Flaw::ReadsNotLive,
+        Flaw::WritesNotLive,
+        Flaw::LogNotLive,
+        Flaw::FailedLive,
+        Flaw::LevelLive,
+        Flaw::FootprintLive,
+        Flaw::DoomedNotFailed,
+        Flaw::IndexOutside,
+        Flaw::LineOutside,
+        Flaw::SameIndex,
+        Flaw::LineNotLogged,
+        Flaw::IndexNotWritten,
+        Flaw::WriteAgainstRead,
+        Flaw::WriteAgainstWrite,
+    ];
+
+    /// Whether the flaw is one of shape: number 1, not 2.
+    pub fn is_shape(self) -> bool {
+        matches!(self, Flaw::ThreadCount | Flaw::MemoryLength)
+    }
+}
+
+/// A machine with this flaw, and its memory.
+pub fn flawed_machine(rng: &mut Rng, flaw: Flaw) -> (Machine, Vec<u64>) {
+    loop {
+        let (mut m, mut mem) = valid_machine(rng);
+        if flaw.put(rng, &mut m, &mut mem) {
+            return (m, mem);
+        }
+    }
+}
+
+/// A machine that is not valid, or of a wrong shape, and its memory.
+pub fn broken_machine(rng: &mut Rng) -> (Machine, Vec<u64>) {
+    let flaw = rng.pick(Flaw::ALL);
+    flawed_machine(rng, flaw)
+}
+
+/// A valid machine with a few fields overwritten: it may or may not be valid.
+pub fn shaken_machine(rng: &mut Rng) -> (Machine, Vec<u64>) {
+    let (mut m, mem) = valid_machine(rng);
+    for _ in 0..1 + rng.below(3) {
+        let lines = mem.len() / LINE;
+        let l = line(rng, lines + 1) & 255;
+        let i = rng.below(mem.len() + 2) as u32;
+        let word = value(rng);
+        let tidy = rng.flag();
+        let t = &mut m.threads[rng.below(THREADS)];
+        match rng.below(16) {
+            0 => t.live.gpr[rng.below(32)] = word,
+            1 => t.live.cr[rng.below(7)] = rng.byte() & 31,
+            2 => t.checkpoint.cr[rng.below(7)] = rng.byte() & 31,
+            3 => t.cr0 = rng.byte() & 31,
+            4 => t.nia = if tidy { word & !3 } else { word },
+            5 => t.tfhar = if tidy { word & !3 } else { word },
+            6 => t.pr = !t.pr,
+            7 => t.state = rng.pick([State::N, State::T, State::S]),
+            8 => t.doomed = !t.doomed,
+            9 => t.texasr = word,
+            10 => t.texasr = t.texasr & !texasr::TL | rng.below(18) as u64,
+            11 => t.texasr ^= texasr::FS,
+            12 => t.reads.insert(l),
+            13 => t.writes.insert(l),
+            14 => {
+                if let Some(e) = t.log.get_mut(t.count) {
+                    *e = Entry {
+                        index: i,
+                        value: word,
+                    };
+                    t.count += 1;
+                    if tidy {
+                        t.writes.insert(i as usize / LINE);
+                    }
+                }
+            }
+            _ => {
+                t.count = t.count.saturating_sub(1);
+                if let Some(e) = t.log.get_mut(t.count).filter(|_| tidy) {
+                    *e = Entry::ZERO;
+                }
+            }
+        }
+    }
+    (m, mem)
+}

@@ -1,0 +1,81 @@
+//! Failure: its causes, recording and handling.
+
+use crate::answer;
+use crate::machine::{texasr, Entry, LineSet, State, Thread};
+
+/// Causes of failure: the upper half of TEXASR.
+pub(super) mod cause {
+    pub const DISALLOWED: u32 = 0x0080_0000;
+    pub const NESTING: u32 = 0x0040_0000;
+    pub const FOOTPRINT: u32 = 0x0020_0000;
+    pub const SELF_INDUCED: u32 = 0x0010_0000;
+    pub const NON_TRANSACTIONAL: u32 = 0x0008_0000;
+    pub const TRANSACTION: u32 = 0x0004_0000;
+    pub const ABORT: u32 = 0x0000_0001;
+}
+
+impl Thread {
+    /// Empties sets and log; unused places of the log are zero.
+    #[inline]
+    pub(super) fn empty(&mut self) {
+        self.reads = LineSet::EMPTY;
+        self.writes = LineSet::EMPTY;
+        for e in self.log.iter_mut().take(self.count) {
+            *e = Entry::ZERO;
+        }
+        self.count = 0;
+    }
+
+    /// Recording. NIA has not moved yet, so it is the address in both cases:
+    /// the thread's own instruction, or where another thread's event met it.
+    pub(super) fn record(&mut self, cause: u32, own: bool) -> bool {
+        if self.failed() {
+            return false;
+        }
+        let flag = |on: bool, bit: u64| if on { bit } else { 0 };
+        self.texasr = u64::from(cause) << 32
+            | flag(self.state == State::S, texasr::SUSPENDED)
+            | flag(self.pr, texasr::PR)
+            | texasr::FS
+            | flag(own, texasr::EXACT)
+            | self.texasr & (texasr::ROT | texasr::TL);
+        self.tfiar = self.nia & !3 | u64::from(self.pr);
+        self.doomed = true;
+        self.empty();
+        true
+    }
+
+    /// Handling.
+    pub(super) fn handle(&mut self) -> u8 {
+        self.live = self.checkpoint;
+        self.cr0 = 0b1010;
+        self.nia = self.tfhar;
+        self.state = State::N;
+        self.doomed = false;
+        answer::HANDLED
+    }
+
+    /// A failure of its own in T: recorded and handled in the same event.
+    pub(super) fn fail_in_t(&mut self, cause: u32) -> u8 {
+        self.record(cause, true);
+        self.handle()
+    }
+
+    /// A failure by another thread's event: handled at once only in T.
+    pub(super) fn fail_by_other(&mut self, cause: u32) {
+        self.record(cause, false);
+        if self.state == State::T {
+            self.handle();
+        }
+    }
+
+    /// Event 15.
+    #[inline]
+    pub(super) fn disallowed(&mut self) -> u8 {
+        if self.state == State::T {
+            self.fail_in_t(cause::DISALLOWED)
+        } else {
+            self.next()
+        }
+    }
+}

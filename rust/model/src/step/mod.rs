@@ -1,0 +1,78 @@
+//! Doing one event: "Events", "Loads, stores and conflicts", and the tests of
+//! "Numbers given back" that belong to an event.
+//!
+//! The tests of an event stand in `attempt`; the function that does it is in
+//! the file of its group.
+
+mod aborts;
+mod access;
+mod failures;
+mod refusals;
+mod registers;
+mod transactions;
+
+use crate::answer;
+use crate::machine::State::{N, S};
+use crate::machine::{valid, Machine, THREADS};
+use crate::Event;
+use access::{load, store};
+use refusals::{access, test};
+
+/// Does one event of one thread and gives its answer. A refused event leaves
+/// the machine and the memory as they were.
+pub fn step(m: &mut Machine, mem: &mut [u64], thread: u8, e: Event) -> u8 {
+    if !m.shape_fits(mem.len()) {
+        return answer::SHAPE;
+    }
+    if !valid(m, mem.len()) {
+        return answer::INVALID;
+    }
+    step_trusted(m, mem, thread, e)
+}
+
+/// As [`step`], for a machine known to be valid with this memory: the numbers
+/// 1 and 2 are not tested. With another machine the outcome is unspecified,
+/// but there is no panic.
+#[inline(always)]
+pub fn step_trusted(m: &mut Machine, mem: &mut [u64], thread: u8, e: Event) -> u8 {
+    attempt(m, mem, thread, e).unwrap_or_else(|refusal| refusal)
+}
+
+/// Tests 3, 4, 5, 11, 12 and 13, each kind those that it can fail, in that
+/// order and before anything is changed; then does the event. Gives the
+/// answer of an event done, or the number that refuses it.
+#[inline(always)]
+fn attempt(m: &mut Machine, mem: &mut [u64], thread: u8, e: Event) -> Result<u8, u8> {
+    let me = usize::from(thread);
+    test(me < m.count.min(THREADS), answer::NO_THREAD)?;
+    let t = &mut m.threads[me];
+    Ok(match e {
+        Event::Tbegin { r } => t.facility()?.tbegin(r),
+        Event::Tend { a } => t.facility()?.not_in(S)?.tend(a, mem),
+        Event::Tabort { ra } => t.register(ra)?.facility()?.tabort(ra),
+        Event::Tabortwc { to, ra, rb } => {
+            t.comparison(to, ra, rb)?.facility()?.tabortwc(to, ra, rb)
+        }
+        Event::Tabortdc { to, ra, rb } => {
+            t.comparison(to, ra, rb)?.facility()?.tabortdc(to, ra, rb)
+        }
+        Event::Tsr { l } => t.facility()?.tsr(l),
+        Event::Tcheck { bf } => t.field(bf)?.facility()?.tcheck(bf),
+        Event::Treclaim { ra } => t.register(ra)?.privileged()?.not_in(N)?.treclaim(ra),
+        Event::Trechkpt => t.privileged()?.failed_in_n()?.trechkpt(),
+        Event::Mtspr { spr, ra } => t.special(spr, ra)?.facility()?.only_in_n()?.mtspr(spr, ra),
+        Event::Mfspr { rt, spr } => t.special(spr, rt)?.facility()?.mfspr(rt, spr),
+        Event::Ld { rt, index } => {
+            access(rt, index, mem)?;
+            load(m, mem, me, rt, index)
+        }
+        Event::Std { ra, index } => {
+            access(ra, index, mem)?;
+            store(m, mem, me, ra, index)
+        }
+        Event::Addi { rt, ra, si } => t.register(rt)?.register(ra)?.addi(rt, ra, si),
+        Event::Disallowed => t.disallowed(),
+        Event::Interrupt => t.interrupt(),
+        Event::Host { pr, tm } => t.host_may()?.host(pr, tm),
+    })
+}

@@ -1,0 +1,170 @@
+//! Numbers 4, 5 and 11 to 13: an event that is not to be done.
+
+use super::*;
+
+#[test]
+fn number_4_operands() {
+    let bad = |n: u8| {
+        [
+            Event::Tabort { ra: n },
+            Event::Tabortwc {
+                to: 0,
+                ra: n,
+                rb: 0,
+            },
+            Event::Tabortwc {
+                to: 0,
+                ra: 0,
+                rb: n,
+            },
+            Event::Tabortwc {
+                to: n,
+                ra: 0,
+                rb: 0,
+            },
+            Event::Tabortdc {
+                to: 0,
+                ra: n,
+                rb: 0,
+            },
+            Event::Tabortdc {
+                to: 0,
+                ra: 0,
+                rb: n,
+            },
+            Event::Tabortdc {
+                to: n,
+                ra: 0,
+                rb: 0,
+            },
+            Event::Treclaim { ra: n },
+            Event::Mtspr { spr: 128, ra: n },
+            Event::Mfspr { rt: n, spr: 128 },
+            ld(n, 0),
+            std(n, 0),
+            addi(n, 0, 0),
+            addi(0, n, 0),
+        ]
+    };
+    // 4 comes before 5, 11, 12 and 13, and is asked whatever the state.
+    for (pr, tm) in [(true, false), (false, true)] {
+        for mut b in in_each_state(pr, tm) {
+            for n in [32, 33, 128, 255] {
+                for e in bad(n) {
+                    b.refused(e, 4);
+                }
+            }
+            for bf in [8, 9, 255] {
+                b.refused(Event::Tcheck { bf }, 4);
+            }
+            for spr in [0, 127, 132, 255] {
+                b.refused(Event::Mtspr { spr, ra: 0 }, 4);
+                b.refused(Event::Mfspr { rt: 0, spr }, 4);
+            }
+            for index in [4096, 4097, 1 << 16, u32::MAX] {
+                b.refused(ld(0, index), 4);
+                b.refused(std(0, index), 4);
+            }
+        }
+    }
+    // The last of each range is no reason for 4.
+    for mut b in in_each_state(false, true) {
+        for e in bad(31).into_iter().chain(EACH) {
+            let mut b = b.clone();
+            assert_ne!(step(&mut b.m, &mut b.mem, 0, e), 4);
+        }
+        b.mem[4095] = 6;
+        b.done(ld(31, 4095));
+        assert_eq!(b.thread(0).live.gpr[31], 6);
+    }
+    // The memory that is lent decides.
+    let mut b = Bench::fresh();
+    b.mem.resize(48, 0);
+    b.refused(ld(0, 48), 4).refused(std(0, 48), 4);
+    b.done(ld(0, 47)).done(std(0, 47));
+}
+
+#[test]
+fn number_5_host_in_t() {
+    for pr in [false, true] {
+        for tm in [false, true] {
+            let host = Event::Host { pr, tm };
+            for (old_pr, old_tm) in [(false, false), (false, true), (true, false), (true, true)] {
+                let [mut n, mut t, mut s, mut doomed] = in_each_state(old_pr, old_tm);
+                t.refused(host, 5);
+                n.done(host);
+                s.done(host);
+                doomed.done(host);
+            }
+        }
+    }
+}
+
+#[test]
+fn number_11_facility_off() {
+    for pr in [false, true] {
+        for e in EACH {
+            for mut b in in_each_state(pr, false) {
+                if e.kind() <= 11 {
+                    // Also before 12 and 13.
+                    b.refused(e, 11);
+                } else {
+                    let mut b = b.clone();
+                    assert_ne!(b.step(0, e), 11);
+                }
+            }
+            for mut b in in_each_state(pr, true) {
+                assert_ne!(b.step(0, e), 11);
+            }
+        }
+    }
+}
+
+#[test]
+fn number_12_privileged() {
+    for e in EACH {
+        for mut b in in_each_state(true, true) {
+            if matches!(e.kind(), 8 | 9) {
+                // Also before 13.
+                b.refused(e, 12);
+            } else {
+                assert_ne!(b.step(0, e), 12);
+            }
+        }
+        for mut b in in_each_state(false, true) {
+            assert_ne!(b.step(0, e), 12);
+        }
+    }
+}
+
+#[test]
+fn number_13_bad_thing() {
+    // For each kind: Bad Thing in N (with FS = 1), T, S live, S doomed.
+    for e in EACH {
+        let bad = match e.kind() {
+            2 => [false, false, true, true],
+            8 => [true, false, false, false],
+            9 => [false, true, true, true],
+            10 => [false, true, true, true],
+            17 => continue,
+            _ => [false; 4],
+        };
+        for (mut b, bad) in in_each_state(false, true).into_iter().zip(bad) {
+            if bad {
+                b.refused(e, 13);
+            } else {
+                assert_ne!(b.step(0, e), 13, "{e:?}");
+            }
+        }
+    }
+    // trechkpt. in N asks for FS = 1.
+    let mut b = Bench::privileged();
+    b.m.threads[0].texasr = !texasr::FS;
+    b.refused(Event::Trechkpt, 13);
+    b.m.threads[0].texasr = texasr::FS;
+    b.done(Event::Trechkpt);
+    // A tend. in S is bad with A = 0 too.
+    for mut b in in_each_state(false, true).into_iter().skip(2) {
+        b.refused(TEND, 13);
+    }
+}
