@@ -11,9 +11,9 @@ use Rattle.own.specs.Compare as compare
 use Rattle.own.specs.Events.{own, tbegin, tabort, tabort-if, tsuspend, tsr, ld-overflows, std-overflows, overflows, ld, logs, meets-own, std, addi, disallowed, host}
 use Rattle.machine.specs.Machine.{fresh, fresh-thread}
 use Rattle.machine.specs.Valid as valid
-use Rattle.machine.specs.Refusal.{bad-thing, refused-there, refused-later, refusal}
-use Rattle.machine.specs.Conflict.{struck, strike, others}
-use Rattle.machine.specs.Step.{perform, step}
+use Rattle.step.specs.Refusal.{bad-thing, refused-there, refused-later, refusal}
+use Rattle.step.specs.Conflict.{struck, strike, others}
+use Rattle.step.specs.Step.{perform, step}
 use Rattle.bench.specs.Bench.{met, all-met, told, holds, all-hold, table, k1, k2, k3, k4, k5, k6, k6-done, k7, k7-done, k8, k9, k10, k10-not}
 
 -- a name for all that the cases compute through: to unfold it is to unfold what stands on its line

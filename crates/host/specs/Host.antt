@@ -5,7 +5,7 @@ use mathlib.Core.List.{List}
 use lib.Dec.{eqb}
 use lib.ListN.{length}
 use Rattle.machine.specs.Valid.{sized, valid}
-use Rattle.machine.specs.Step as machine
+use Rattle.step.specs.Step as machine
 use Rattle.machine.specs.declared.Machine.{Machine}
 use Rattle.tape.specs.Fields.{fields, fields-of}
 use Rattle.tape.specs.Tape as tape

@@ -85,7 +85,7 @@ pub extern "C" fn naszeptan_step(m: RawMachine, mem: &mut [u64], e: Fields) -> R
             machine: m,
         };
     }
-    let done = machine::step::step(crossing::machine_of(m), mem, thread, event);
+    let done = step::step(crossing::machine_of(m), mem, thread, event);
     RawDone {
         answer: done.answer,
         machine: crossing::raw_machine(done.machine),

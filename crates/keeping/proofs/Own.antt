@@ -29,7 +29,7 @@ use Rattle.thread.specs.declared.Control.{Control}
 use Rattle.thread.specs.declared.Thread.{Thread}
 use Rattle.thread.proofs.Laws.{begun-fs, begun-tl}
 use Rattle.machine.specs.Valid.{memory-sized, thread-valid}
-use Rattle.machine.specs.Refusal.{host-in-t, off, forbidden, bad-thing, refused-there}
+use Rattle.step.specs.Refusal.{host-in-t, off, forbidden, bad-thing, refused-there}
 use Rattle.machine.proofs.Validity.{memory-most}
 use Rattle.keeping.proofs.Held.{join-shaped, store-shaped, join-held, store-held, join-footprint, store-footprint}
 use Rattle.keeping.proofs.Fails.{Filed, Addressed, Live, Rules, Right, right, valid, doomed-empty, undoomed-live, empty-holds, handled, failure-t, failure-s}

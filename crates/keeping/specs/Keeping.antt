@@ -6,10 +6,10 @@ use Prim.Native.Nat.{ℕ}
 use lib.ListN.{length}
 use Rattle.event.specs.declared.Event.{Event}
 use Rattle.machine.specs.Valid.{valid}
-use Rattle.machine.specs.Refusal.{refusal}
-use Rattle.machine.specs.Step.{outcome, step}
+use Rattle.step.specs.Refusal.{refusal}
+use Rattle.step.specs.Step.{outcome, step}
 use Rattle.machine.specs.declared.Machine.{Machine}
-use Rattle.machine.specs.declared.Done.{Done}
+use Rattle.step.specs.declared.Done.{Done}
 
 -- from a valid machine every event, refused or not, leaves a valid machine over a memory of the same length
 abbrev pub Keeps : Type 0

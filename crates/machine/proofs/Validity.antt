@@ -1,20 +1,15 @@
--- What a valid machine and an event that is not refused tell: sizes, the event's thread, its operands.
+-- What a valid machine tells: sizes, and that its threads are valid.
 use mathlib.Core.Path.{_≡_}
-use mathlib.Core.List.{List}
-use mathlib.Core.Bool.{true, false, not, cond, _&&_}
+use mathlib.Core.Bool.{true, _&&_}
 use Prim.Native.Nat.{ℕ, _*_, _%_, _≤_, _<_}
 use native.Mathlib.Omega.{arith}
 use lib.Dec.{eqb, leb}
 use lib.ListN.{length}
-use borrow.Author.Tests.{leb-true, leb-false, lt-ltb, not-false}
+use borrow.Author.Tests.{leb-true, lt-ltb}
 use Rattle.base.specs.Limits.{line-size, lines, most-places, most-threads}
-use Rattle.base.proofs.Below.{and-left, and-right, no-number, all-at}
-use Rattle.event.specs.Event.{kind, operands-right}
-use Rattle.event.specs.declared.Event.{Event}
+use Rattle.base.proofs.Below.{and-left, and-right, all-at}
 use Rattle.machine.specs.Machine.{thread}
 use Rattle.machine.specs.Valid.{memory-sized, sized, shaped, aligned, fields-small, state-rules, indices-inside, lines-inside, distinct, writes-logged, held-right, thread-valid, thread-right, threads-right, apart, valid}
-use Rattle.machine.specs.Refusal.{refused-there, refused-later, refusal}
-use Rattle.machine.specs.Step.{outcome, perform, step}
 use Rattle.machine.specs.declared.Machine.{Machine}
 use Rattle.machine.proofs.Laws.{unused-count}
 
@@ -56,36 +51,3 @@ module _ (m : Machine) (len : ℕ) (v : valid m len ≡ true) where
       let x = t .transaction in
       let held = and-right (shaped t && aligned (t .control) && fields-small t && state-rules (t .control .state) t) (held-right x len) (valid-thread w h) in
       unused-count x (and-left _ (indices-inside x len) (and-left _ (lines-inside x len) (and-left _ (distinct x) (and-left _ (writes-logged x) held))))
-
--- an event that passes the later tests has a thread, right operands, and passes those on its thread
-module _ (m : Machine) (len w : ℕ) (e : Event) (z : refused-later m len w e ≡ 0) where
-  there : cond (leb (m .count) w) 3 (cond (not (operands-right e len)) 4 (refused-there (thread (m .threads) w .control) (kind e))) ≡ 0
-  unfolding refused-later
-  there = z
-
-  pub passed-thread : w < m .count
-  passed-thread = leb-false (m .count) w (no-number _ 2 _ there .0)
-
-  after-thread : cond (not (operands-right e len)) 4 (refused-there (thread (m .threads) w .control) (kind e)) ≡ 0
-  after-thread = no-number (leb (m .count) w) 2 _ there .1
-
-  pub passed-operands : operands-right e len ≡ true
-  passed-operands = not-false (operands-right e len) (no-number _ 3 _ after-thread .0)
-
-  pub passed-there : refused-there (thread (m .threads) w .control) (kind e) ≡ 0
-  passed-there = no-number (not (operands-right e len)) 3 _ after-thread .1
-
--- the step of a refused event, and of one that passes
-module _ (m : Machine) (mem : List ℕ) (w : ℕ) (e : Event) where
-  pub step-refused : (n : ℕ) → refusal m (length mem) w e ≡ n → eqb n 0 ≡ false → step m mem w e ≡ outcome n m mem
-  unfolding step
-  step-refused n p z = simp (p, z)
-
-  pub step-passed : refusal m (length mem) w e ≡ 0 → step m mem w e ≡ perform m mem w e
-  unfolding step
-  step-passed p = simp p
-
--- on a valid machine only the later tests are left
-pub refusal-valid : (m : Machine) (len w : ℕ) (e : Event) → valid m len ≡ true → refusal m len w e ≡ refused-later m len w e
-unfolding refusal
-refusal-valid m len w e v = simp (valid-sized m len v, v)

@@ -1,5 +1,2 @@
 pub mod Machine
 pub mod Valid
-pub mod Refusal
-pub mod Conflict
-pub mod Step

@@ -1,8 +1,5 @@
 // The machine: one to four threads over a lent memory (document 01, "The machine").
-pub mod conflict;
 mod held;
-pub mod refusal;
-pub mod step;
 pub mod valid;
 mod zeros;
 
@@ -17,12 +14,6 @@ use thread::Thread;
 pub struct Machine {
     pub count: usize,
     pub threads: [Thread; THREADS],
-}
-
-// A step's answer and the machine after it.
-pub struct Done {
-    pub answer: u8,
-    pub machine: Machine,
 }
 
 // Four threads, all N, PR = 1, TM = 1, all else zero.

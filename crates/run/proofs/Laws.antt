@@ -8,7 +8,7 @@ use native.Mathlib.Omega.{arith}
 use lib.Dec.{eqb}
 use lib.ListN.{length, take, drop}
 use Rattle.machine.specs.Valid.{valid}
-use Rattle.machine.specs.Step.{Outcome}
+use Rattle.step.specs.Step.{Outcome}
 use Rattle.machine.specs.declared.Machine.{Machine}
 use Rattle.tape.specs.Tape.{record-size, read}
 use Rattle.tape.specs.declared.Read.{Read}

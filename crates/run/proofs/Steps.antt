@@ -12,10 +12,10 @@ use Rattle.base.proofs.Below.{fork}
 use Rattle.event.specs.declared.Event.{Event}
 use Rattle.machine.specs.Machine.{thread}
 use Rattle.machine.specs.Valid.{sized, valid}
-use Rattle.machine.specs.Refusal.{refusal}
-use Rattle.machine.specs.Step.{Outcome, outcome, perform, step, Fed, feed}
+use Rattle.step.specs.Refusal.{refusal}
+use Rattle.step.specs.Step.{Outcome, outcome, perform, step, Fed, feed}
 use Rattle.machine.specs.declared.Machine.{Machine}
-use Rattle.machine.proofs.Validity.{step-refused, step-passed}
+use Rattle.step.proofs.Refusals.{step-refused, step-passed}
 use Rattle.tape.specs.Tape.{record-size, read}
 use Rattle.tape.specs.declared.Read.{Read}
 use Rattle.tape.specs.declared.Read.the-variants.{Record, Refused}

@@ -5,7 +5,7 @@ use mathlib.Core.List.{List}
 use lib.Dec.{eqb}
 use lib.ListN.{length, take, drop}
 use Rattle.machine.specs.Valid.{sized, valid}
-use Rattle.machine.specs.Step.{Outcome, step}
+use Rattle.step.specs.Step.{Outcome, step}
 use Rattle.machine.specs.declared.Machine.{Machine}
 use Rattle.tape.specs.Tape.{record-size, read}
 use Rattle.tape.specs.declared.Read.{Read}

@@ -5,7 +5,7 @@ use mathlib.Core.List.{List, [], _∷_, _++_}
 use Prim.Native.Nat.{ℕ, zero, suc, _+_}
 use lib.ListN.{length}
 use Rattle.machine.specs.Valid.{valid}
-use Rattle.machine.specs.Step.{outcome, step, Fed, feed}
+use Rattle.step.specs.Step.{outcome, step, Fed, feed}
 use Rattle.machine.specs.declared.Machine.{Machine}
 use Rattle.event.specs.declared.Event.{Event}
 use Rattle.tape.specs.Tape.{read}

@@ -45,7 +45,7 @@ pub fn one(m: Machine, mem: &mut [u64], bytes: &[u8], k: usize) -> Ended
             machine: m,
         };
     };
-    let done = machine::step::step_valid(m, mem, thread, event);
+    let done = step::step_valid(m, mem, thread, event);
     let next = done.machine;
     if goes_on(done.answer) {
         return Ended {

@@ -16,9 +16,9 @@ use Rattle.own.specs.Compare as compare
 use Rattle.own.specs.Events as events
 use Rattle.machine.specs.Machine.{fresh, fresh-thread}
 use Rattle.machine.specs.Valid as valid
-use Rattle.machine.specs.Refusal.{bad-thing, refused-there, refused-later, refusal}
-use Rattle.machine.specs.Conflict.{struck, strike, others}
-use Rattle.machine.specs.Step.{perform, step}
+use Rattle.step.specs.Refusal.{bad-thing, refused-there, refused-later, refusal}
+use Rattle.step.specs.Conflict.{struck, strike, others}
+use Rattle.step.specs.Step.{perform, step}
 use Rattle.secrecy.specs.Secrecy.{Alike, tells, Stepping}
 use Rattle.secrecy.specs.Corollaries.{seen}
 use Rattle.secrecy.specs.Examples.{Example, small-memory, machine, start, ToldApart}

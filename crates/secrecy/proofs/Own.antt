@@ -29,7 +29,7 @@ use Rattle.event.specs.declared.Event.the-variants.{Tbegin, Tend, Tabort, Tabor
 use Rattle.own.specs.Own.{Ran, did, ran, passes, gpr, fails}
 use Rattle.own.specs.Events.{tbegin, commits, tend, abort-cause, tabort, tresume, tsr, tcheck, treclaim, mfspr, tracked, ld-overflows, std-overflows, overflows, takes, ld, logs, std, addi, disallowed, host, own}
 use Rattle.own.specs.declared.Did.{Did}
-use Rattle.machine.specs.Refusal.{bad-thing, refused-there}
+use Rattle.step.specs.Refusal.{bad-thing, refused-there}
 use Rattle.keeping.proofs.Own.{not-bad}
 use Rattle.secrecy.specs.Secrecy.{AlikeThread, tells}
 

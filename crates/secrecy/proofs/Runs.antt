@@ -9,8 +9,8 @@ use lib.Dec.{eqb}
 use lib.ListN.{length}
 use Rattle.machine.specs.Machine.{thread}
 use Rattle.machine.specs.Valid.{valid}
-use Rattle.machine.specs.Refusal.{in-t}
-use Rattle.machine.specs.Step.{Outcome, outcome, step}
+use Rattle.step.specs.Refusal.{in-t}
+use Rattle.step.specs.Step.{Outcome, outcome, step}
 use Rattle.machine.specs.declared.Machine.{Machine}
 use Rattle.machine.proofs.Validity.{valid-sized}
 use Rattle.keeping.proofs.Keeping.{keeps}

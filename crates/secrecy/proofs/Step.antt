@@ -20,11 +20,12 @@ use Rattle.own.specs.Own.{Ran}
 use Rattle.own.specs.Events.{overflows, own}
 use Rattle.machine.specs.Machine.{thread, no-thread}
 use Rattle.machine.specs.Valid.{thread-valid, zero-state, valid}
-use Rattle.machine.specs.Refusal.{in-t, refused-there, refused-later, refusal}
-use Rattle.machine.specs.Conflict.{others}
-use Rattle.machine.specs.Step.{perform, step}
+use Rattle.step.specs.Refusal.{in-t, refused-there, refused-later, refusal}
+use Rattle.step.specs.Conflict.{others}
+use Rattle.step.specs.Step.{perform, step}
 use Rattle.machine.specs.declared.Machine.{Machine}
-use Rattle.machine.proofs.Validity.{valid-thread, passed-there, step-refused, step-passed, refusal-valid}
+use Rattle.machine.proofs.Validity.{valid-thread}
+use Rattle.step.proofs.Refusals.{passed-there, step-refused, step-passed, refusal-valid}
 use Rattle.keeping.proofs.Fails.{live-unfailed-t, valid-shaped}
 use Rattle.keeping.proofs.Struck.{zero-in-n}
 use Rattle.keeping.proofs.Others.{Fits}

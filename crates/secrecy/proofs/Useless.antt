@@ -10,8 +10,8 @@ use Rattle.event.specs.declared.Event.{Event}
 use Rattle.event.specs.declared.Event.the-variants.{Addi}
 use Rattle.machine.specs.Machine.{thread, fresh}
 use Rattle.machine.specs.Valid.{valid}
-use Rattle.machine.specs.Refusal.{in-t}
-use Rattle.machine.specs.Step.{Outcome, outcome, step, Fed}
+use Rattle.step.specs.Refusal.{in-t}
+use Rattle.step.specs.Step.{Outcome, outcome, step, Fed}
 use Rattle.machine.specs.declared.Machine.{Machine}
 use Rattle.secrecy.specs.Secrecy.{Alike, allowed, Until, Agrees, SecretOf}
 use Rattle.secrecy.specs.Examples.{small-memory}

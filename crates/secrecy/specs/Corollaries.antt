@@ -8,7 +8,7 @@ use Rattle.event.specs.declared.Event.{Event}
 use Rattle.event.specs.declared.Event.the-variants.{Ld}
 use Rattle.machine.specs.Machine.{thread}
 use Rattle.machine.specs.Valid.{valid}
-use Rattle.machine.specs.Step.{Outcome, outcome, step, Fed}
+use Rattle.step.specs.Step.{Outcome, outcome, step, Fed}
 use Rattle.machine.specs.declared.Machine.{Machine}
 use Rattle.secrecy.specs.Secrecy.{Alike, allowed, Stepping, after-by, Until, Agree}
 

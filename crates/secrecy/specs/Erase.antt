@@ -13,7 +13,7 @@ use Rattle.thread.specs.declared.Thread.{Thread}
 use Rattle.event.specs.declared.Event.{Event}
 use Rattle.machine.specs.Machine.{thread, with-threads}
 use Rattle.machine.specs.Valid.{valid}
-use Rattle.machine.specs.Step.{outcome, step}
+use Rattle.step.specs.Step.{outcome, step}
 use Rattle.machine.specs.declared.Machine.{Machine}
 use Rattle.secrecy.specs.Secrecy.{Alike, allowed, Agree}
 

@@ -12,7 +12,7 @@ use Rattle.thread.specs.declared.Thread.{Thread}
 use Rattle.event.specs.declared.Event.{Event}
 use Rattle.machine.specs.Machine.{blank-registers, fresh-thread}
 use Rattle.machine.specs.Valid.{valid}
-use Rattle.machine.specs.Step.{Outcome, outcome, Fed}
+use Rattle.step.specs.Step.{Outcome, outcome, Fed}
 use Rattle.machine.specs.declared.Machine.{Machine}
 use Rattle.secrecy.specs.Secrecy.{Alike, Stepping}
 use Rattle.secrecy.specs.Corollaries.{seen}

@@ -15,9 +15,9 @@ use Rattle.event.specs.declared.Event.the-variants.{Tabort, Ld, Std, Disallowed
 use Rattle.own.specs.Own.{ran, gpr, put-gpr}
 use Rattle.own.specs.Events as events
 use Rattle.machine.specs.Machine.{thread, with-threads, fresh-thread}
-use Rattle.machine.specs.Refusal.{refusal}
-use Rattle.machine.specs.Conflict.{others}
-use Rattle.machine.specs.Step.{outcome, joined, perform, Fed}
+use Rattle.step.specs.Refusal.{refusal}
+use Rattle.step.specs.Conflict.{others}
+use Rattle.step.specs.Step.{outcome, joined, perform, Fed}
 use Rattle.secrecy.specs.Secrecy.{Stepping, Until, SecretOf}
 use Rattle.secrecy.specs.Examples.{open-thread, Example, start, ToldApart, Each, own, other}
 

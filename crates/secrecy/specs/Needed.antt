@@ -6,7 +6,7 @@ use Prim.Native.Nat.{ℕ}
 use Rattle.event.specs.declared.Event.{Event}
 use Rattle.event.specs.declared.Event.the-variants.{Tend, Tabort, Tabortwc, Tabortdc, Tsr, Treclaim, Mfspr, Std, Interrupt}
 use Rattle.machine.specs.Machine.{fresh-thread}
-use Rattle.machine.specs.Step.{step, after}
+use Rattle.step.specs.Step.{step, after}
 use Rattle.secrecy.specs.Secrecy.{open-at, allowed}
 use Rattle.secrecy.specs.Examples.{Example, start, ToldApart, Each, own}
 

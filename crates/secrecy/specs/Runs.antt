@@ -5,7 +5,7 @@ use mathlib.Core.List.{List}
 use Prim.Native.Nat.{ℕ, _/_}
 use lib.ListN.{length}
 use Rattle.machine.specs.Valid.{valid}
-use Rattle.machine.specs.Step.{outcome, step}
+use Rattle.step.specs.Step.{outcome, step}
 use Rattle.machine.specs.declared.Machine.{Machine}
 use Rattle.tape.specs.Tape.{record-size}
 use Rattle.run.specs.Run.{Result, run}

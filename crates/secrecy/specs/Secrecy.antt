@@ -14,8 +14,8 @@ use Rattle.event.specs.declared.Event.the-variants.{Tbegin, Tend, Tabort, Tabor
 use Rattle.own.specs.Events.{commits}
 use Rattle.machine.specs.Machine.{thread}
 use Rattle.machine.specs.Valid.{valid}
-use Rattle.machine.specs.Refusal.{in-t, refusal}
-use Rattle.machine.specs.Step.{Outcome, outcome, step, Fed, feed}
+use Rattle.step.specs.Refusal.{in-t, refusal}
+use Rattle.step.specs.Step.{Outcome, outcome, step, Fed, feed}
 use Rattle.machine.specs.declared.Machine.{Machine}
 
 -- two threads alike except for their live registers (general registers and CR fields, CR0 too) and the values in their logs; both are Transactional

@@ -41,7 +41,7 @@ fn record(w: World, mem: &mut [u64], b: [u8; 16]) -> World {
         return w;
     }
     let m = w.machine;
-    let done = machine::step::step(m, &mut mem[..lent], thread, event);
+    let done = step::step(m, &mut mem[..lent], thread, event);
     answer(done.answer);
     let machine = done.machine;
     World { machine, lent }

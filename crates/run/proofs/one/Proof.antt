@@ -1,8 +1,8 @@
 -- `run::one` meets its contract: by what the reader answers, and whether the run goes on.
 use mathlib.Core.Path.{sym, ap, _∙_}
 use Prim.Native.Nat.{_+_}
-use Rattle.machine.specs.Step.{step}
-use Rattle.machine.specs.declared.Done.{Done}
+use Rattle.step.specs.Step.{step}
+use Rattle.step.specs.declared.Done.{Done}
 use Rattle.run.specs.Run.{goes-on, one}
 use Rattle.run.proofs.Laws.{is-counted, not-counted}
 use borrow.Author.Needs.{needs}
