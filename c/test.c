@@ -14,6 +14,9 @@ _Static_assert(sizeof(struct naszeptan_control) == 40, "control");
 _Static_assert(sizeof(struct naszeptan_thread) == 1672, "thread");
 _Static_assert(sizeof(struct naszeptan_machine) == 6696, "machine");
 _Static_assert(sizeof(struct naszeptan_event) == 16, "event");
+_Static_assert(sizeof(struct naszeptan_done) == 6704, "done");
+_Static_assert(sizeof(struct naszeptan_ended) == 6712, "ended");
+_Static_assert(sizeof(struct naszeptan_record) == 20, "record");
 
 static int checks;
 

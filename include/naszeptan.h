@@ -13,9 +13,12 @@
  * not const, write) and which no one else touches meanwhile. Where the length
  * is 0 the pointer is not used.
  *
- * Each call that can refuse gives a number of the table below. What is
- * refused changes nothing: the machine given back is the one handed in, bit
- * for bit but for padding, and memory or buffer stay as they were.
+ * Each call that can refuse gives a number of the table below. A step, a
+ * reader or a writer that refuses changes nothing, and neither does a run that
+ * is refused by 1, 2 or 6: the machine given back is the one handed in, bit
+ * for bit but for padding, and memory or buffer stay as they were. A run that
+ * stops at a later record keeps what the records before it did; the record
+ * that stopped it has changed nothing.
  */
 #ifndef NASZEPTAN_H
 #define NASZEPTAN_H
@@ -54,7 +57,8 @@ enum naszeptan_answer {
   NASZEPTAN_TAPE_LENGTH = 6,   /* tape not a multiple of 16 bytes */
   NASZEPTAN_BAD_FIRST_BYTE = 7,/* a record's first byte is not 0xE3 */
   NASZEPTAN_NO_KIND = 8,       /* kind not 1 to 17 */
-  NASZEPTAN_FIELD = 9,         /* an unused field is not 0, or flags too big */
+  NASZEPTAN_FIELD = 9,         /* an unused field or a fixed byte is not 0, or
+                                  flags too big */
   NASZEPTAN_SHORT_BUFFER = 10, /* the writer's buffer has under 16 bytes */
   NASZEPTAN_FACILITY_OFF = 11, /* a TM instruction with TM = 0 */
   NASZEPTAN_PRIVILEGED = 12,   /* a privileged instruction in problem state */
@@ -88,7 +92,7 @@ enum naszeptan_kind {
   NASZEPTAN_LD = 12,        /* x: RT, index */
   NASZEPTAN_STD = 13,       /* ra, index */
   NASZEPTAN_ADDI = 14,      /* x: RT, ra, si */
-  NASZEPTAN_DISALLOWED = 15,/* none: any instruction that fails a transaction */
+  NASZEPTAN_DISALLOWED = 15,/* none: any disallowed instruction */
   NASZEPTAN_INTERRUPT = 16, /* none */
   NASZEPTAN_HOST = 17       /* flags: PR + 2 * TM */
 };
@@ -187,7 +191,9 @@ uint32_t naszeptan_version(void);
 struct naszeptan_machine naszeptan_fresh(void);
 
 /* Whether these bits are a machine over a memory of len doublewords: 0, or 1
- * (memory length or thread count), or 2 (not a valid machine). */
+ * (memory length or thread count), or 2 (not a valid machine). What is valid
+ * says document 01, "The machine"; a machine that a call gave back is valid if
+ * the one handed in was. */
 uint8_t naszeptan_valid(struct naszeptan_machine machine, size_t len);
 
 /* One event. Refused by 1, 2, 8, 9, 3, 4, 5, 11, 12, 13: the first that

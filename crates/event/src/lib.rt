@@ -2,7 +2,7 @@
 ghost use mathlib.Core.Path.{_≡_};
 ghost use Rattle.event.specs.Event.{kind, spr-right, pair-right, compare-right, special-right, access-right, operands-right};
 
-// Registers, BF, TO and SPR may be any byte and an index any 32 bits: what is out of range is refused by the step.
+// Operands take any value of their width: the step refuses what is out of range.
 pub enum Event {
     Tbegin { r: bool },
     Tend { a: bool },

@@ -172,7 +172,7 @@ live-unfailed-s t len p d h = live-unfailed (undoomed-live _ _ _ d (right S t le
 pub valid-shaped : (t : Thread) (len : ℕ) → thread-valid t len ≡ true → Shaped (t .transaction)
 valid-shaped t len h = right _ t len refl h .holds .shape
 
--- in N, and in S with TDOOMED = 1, nothing is held
+-- without a live transaction nothing is held
 pub held-nothing-n : (t : Thread) (len : ℕ) → t .control .state ≡ N → thread-valid t len ≡ true → t .transaction ≡ transaction.empty
 held-nothing-n t len p h = right N t len p h .rules .1
 

@@ -34,7 +34,7 @@ meets a b = any-below (λ l. has a l && has b l) lines
 unfoldable pub same : LineSet → LineSet → Bool
 same a b = all-below (λ l. Bool·beq (has a l) (has b l)) lines
 
--- the footprint: the number of lines in either set, counted once
+-- the footprint: how many lines the two sets have together
 unfoldable pub footprint : LineSet → LineSet → ℕ
 footprint r w = count-below (λ l. has r l || has w l) lines
 

@@ -86,7 +86,7 @@ fn joined(a: u64, b: u64) -> u32
     u64::count_ones(a | b)
 }
 
-// The number of lines in either set, counted once.
+// How many lines the two sets have together.
 pub fn footprint(r: LineSet, w: LineSet) -> u32
     ensures { λ n. ⌜ n ≡ footprint r w ⌝ }
 {

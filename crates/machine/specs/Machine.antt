@@ -39,7 +39,7 @@ thread ts w = getD ts w no-thread
 abbrev pub with-threads : Machine → List Thread → Machine
 with-threads m ts = record { count = m .count; threads = ts }
 
--- a fresh machine: four threads, all N, PR = 1, TM = 1, all else zero, and 4,096 doublewords of memory, all zero
+-- the fresh machine, in problem state with the facility on, and its memory
 abbrev pub blank-registers : Registers
 blank-registers = record { gpr = replicate 32 0; cr = replicate 7 0 }
 

@@ -21,7 +21,7 @@ use Rattle.thread.specs.declared.Thread.{Thread}
 use Rattle.machine.specs.Machine.{thread}
 use Rattle.machine.specs.declared.Machine.{Machine}
 
--- number 1: the length is a multiple of 16, from 16 to 4,096; one to four threads
+-- number 1: memory of whole lines, 1 to 256 of them, and a count that the records can hold
 abbrev pub memory-sized : ℕ → Bool
 memory-sized len = eqb (len % line-size) 0 && leb line-size len && leb len (line-size * lines)
 
@@ -64,7 +64,7 @@ no-line s = all-below (λ k. eqb (lineset.word s k) 0) words
 unfoldable pub holds-nothing : Transaction → Bool
 holds-nothing x = no-line (x .reads) && no-line (x .writes) && eqb (x .count) 0
 
--- a live transaction: FS = 0, TL is 1 to 15, footprint at most 32
+-- what a live transaction asks of FS, level and footprint
 unfoldable pub live-rules : Thread → Bool
 live-rules t =
     not (failed (t .control))
@@ -72,7 +72,7 @@ live-rules t =
     && leb (tl (t .control .texasr)) most-levels
     && leb (lineset.footprint (t .transaction .reads) (t .transaction .writes)) most-footprint
 
--- what each state asks: in N, and in S with TDOOMED = 1, sets and log are empty; in N and T, TDOOMED = 0; in S with TDOOMED = 1, FS = 1
+-- what each state asks of TDOOMED, of FS and of what is held
 unfoldable pub state-rules : State → Thread → Bool
 state-rules N t = not (t .control .doomed) && holds-nothing (t .transaction)
 state-rules T t = not (t .control .doomed) && live-rules t
@@ -95,7 +95,7 @@ unlike x n = all-below (λ k. not (eqb (entry (x .log) k .index) (entry (x .log)
 unfoldable pub distinct : Transaction → Bool
 distinct x = all-below (unlike x) (x .count)
 
--- a line is in the write set exactly when the log has an index in it
+-- the write set is the set of the log's lines
 unfoldable pub logs-line : Transaction → ℕ → Bool
 logs-line x l = any-below (λ n. eqb (line (entry (x .log) n .index)) l) (x .count)
 
@@ -111,7 +111,7 @@ held-right x len = unused-zero x && indices-inside x len && lines-inside x len &
 unfoldable pub thread-valid : Thread → ℕ → Bool
 thread-valid t len = shaped t && aligned (t .control) && fields-small t && state-rules (t .control .state) t && held-right (t .transaction) len
 
--- thread records past the count are all zero
+-- records that are no threads are zero
 unfoldable pub zero-gpr : Registers → Bool
 zero-gpr r = all-below (λ i. eqb (getD (r .gpr) i 0) 0) 32
 
@@ -140,7 +140,7 @@ zero-thread t =
     && holds-nothing (t .transaction)
     && unused-zero (t .transaction)
 
--- no line of one thread's write set is in another thread's sets
+-- what one thread has written no other has read or written
 unfoldable pub clash : Transaction → Transaction → Bool
 clash x y = lineset.meets (x .writes) (y .reads) || lineset.meets (x .writes) (y .writes)
 

@@ -16,7 +16,7 @@ pub struct Machine {
     pub threads: [Thread; THREADS],
 }
 
-// Four threads, all N, PR = 1, TM = 1, all else zero.
+// The fresh machine: in problem state, with the facility on.
 pub fn fresh() -> Machine
     ensures { λ r. ⌜ r ≡ fresh ⌝ }
 {

@@ -153,7 +153,7 @@ fn thread_valid(t: Thread, len: usize) -> bool
     held::held_right(x, len)
 }
 
-// A line of one thread's write set is in another's read set or write set.
+// One thread's written lines meet what another has read or written.
 fn clash(a: LineSet, r: LineSet, w: LineSet) -> bool
     ensures { λ b. ⌜ b ≡ (meets a r || meets a w) ⌝ }
 {

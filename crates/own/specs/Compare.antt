@@ -11,7 +11,7 @@ turned half a = cond (ltb a half) (a + half) (a - half)
 unfoldable pub picked : ℕ → ℕ → Bool → Bool
 picked to w test = eqb (to / w % 2) 1 && test
 
--- a chosen comparison holds: 16 signed less, 8 signed greater, 4 equal, 2 unsigned less, 1 unsigned greater
+-- one of the five comparisons is asked for, by its bit of TO, and true
 unfoldable pub holds : ℕ → ℕ → ℕ → ℕ → Bool
 holds half to a b =
     picked to 16 (ltb (turned half a) (turned half b))

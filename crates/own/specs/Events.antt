@@ -49,7 +49,7 @@ tbegin N t r = passes (with-control (take-checkpoint (cr0-from-state t)) (begins
 tbegin T t r = cond (leb most-levels (tl (t .control .texasr))) (fails t cause-nesting) (leveled t (t .control .texasr + 1))
 tbegin S t r = cr0-only t
 
--- 2. tend. (A): with A = 1 or TL = 1 it commits: every log value goes to its doubleword, TL = 0, sets and log emptied, state N
+-- 2. tend. (A): the last level, or A = 1, commits: the log goes to memory, and nothing of the transaction is left
 abbrev pub commits : Thread → Bool → Bool
 commits t a = a || leb (tl (t .control .texasr)) 1
 
@@ -79,7 +79,7 @@ tabort N t cause = cr0-only t
 tabort T t cause = fails t cause
 tabort S t cause = dooms (cr0-from-state t) cause
 
--- 4, 5. tabortwc., tabortdc.: as tabort. with RA = 0 if a chosen comparison holds
+-- 4, 5. tabortwc., tabortdc.: the cause of RA = 0, where one of the comparisons asked for is true
 unfoldable pub tabort-if : Thread → Bool → Did
 tabort-if t held = cond held (tabort (t .control .state) t (cause-abort 0)) (cr0-only t)
 
@@ -106,7 +106,7 @@ tresume S t = cond (t .control .doomed) (did 20 (handling t)) (moves t T)
 unfoldable pub tsr : Thread → Bool → Did
 tsr t l = cond l (tresume (t .control .state) t) (tsuspend (t .control .state) t)
 
--- 7. tcheck (BF): CR field BF = TDOOMED, TS, 0
+-- 7. tcheck (BF): the CR field shows, highest bit first, doomed, the state's two bits and 0
 abbrev pub put-cr : Thread → ℕ → ℕ → Thread
 put-cr t bf f = cond (eqb bf 0) (with-cr0 t f) (with-live t (record { gpr = t .live .gpr; cr = set (t .live .cr) (bf - 1) f }))
 
@@ -116,18 +116,18 @@ check-field k = bit (k .doomed) * 8 + ts-field (k .state)
 unfoldable pub tcheck : Thread → ℕ → Did
 tcheck t bf = passes (put-cr t bf (check-field (t .control)))
 
--- 8. treclaim. (RA): records as tabort. does; registers and CR 1 to 7 from the checkpoint, CR0 from state, state N, TDOOMED = 0, sets and log emptied
+-- 8. treclaim. (RA): the cause of tabort., then the checkpoint is put back and the thread is in N with nothing held
 abbrev pub reclaims : Thread → Thread
 reclaims t = with-transaction (with-control (restore t) (in-state (t .control) N false)) (transaction.discard (t .transaction))
 
 unfoldable pub treclaim : Thread → ℕ → Did
 treclaim t ra = passes (with-cr0 (reclaims (own-recording t (abort-cause t ra))) (ts-field (t .control .state)))
 
--- 9. trechkpt.: checkpoint taken, CR0 = 0, state S, TDOOMED = 1
+-- 9. trechkpt.: the live registers become the checkpoint of a suspended transaction that is doomed
 unfoldable pub trechkpt : Thread → Did
 trechkpt t = passes (with-control (with-cr0 (take-checkpoint t) 0) (in-state (t .control) S true))
 
--- 10. mtspr (SPR, RA): 128 TFHAR, low two bits cleared; 129 TFIAR; 130 TEXASR; 131 the upper half of TEXASR from the low 32 bits
+-- 10. mtspr (SPR, RA): which register each SPR number names; TFHAR stays a multiple of 4, TEXASRU is half a register
 abbrev pub special : Control → ℕ → ℕ → ℕ → Control
 special k tfhar tfiar texasr =
     record { nia = k .nia; pr = k .pr; tm = k .tm; state = k .state; doomed = k .doomed; tfhar = tfhar; tfiar = tfiar; texasr = texasr }
@@ -142,7 +142,7 @@ put-spr k spr v =
 unfoldable pub mtspr : Thread → ℕ → ℕ → Did
 mtspr t spr ra = passes (with-control t (put-spr (t .control) spr (gpr t ra)))
 
--- 11. mfspr (RT, SPR): 131 gives the upper half; 129 gives 0 if PR = 1 and TFIAR's lowest bit is 0
+-- 11. mfspr (RT, SPR): problem state does not see the address of a failure that was privileged
 abbrev pub get-tfiar : Control → ℕ
 get-tfiar k = cond (k .pr && eqb (k .tfiar % 2) 0) 0 (k .tfiar)
 
@@ -156,7 +156,7 @@ get-spr k spr =
 unfoldable pub mfspr : Thread → ℕ → ℕ → Did
 mfspr t rt spr = passes (put-gpr t rt (get-spr (t .control) spr))
 
--- (a) overflow, only in T; a load with ROT = 1 adds no line
+-- (a) overflow, only in T; under ROT a load is not tracked
 abbrev pub tracked : Thread → Bool
 tracked t = eqb (rot (t .control .texasr)) 0
 
@@ -202,7 +202,7 @@ ld N t rt i mem = takes t rt i mem
 ld T t rt i mem = cond (ld-overflows T t i) (fails t cause-footprint) (takes (cond (tracked t) (joins t i) t) rt i mem)
 ld S t rt i mem = takes t rt i mem
 
--- 13. std (RA, index): (a); (b) in S a store to a line in the thread's own sets; (d): in T to the log, else to memory
+-- 13. std (RA, index): (a), then (b) where the suspended thread meets its own sets, then (d)
 unfoldable pub logs : Thread → ℕ → ℕ → Did
 logs t v i = cond (std-overflows T t i) (fails t cause-footprint) (passes (with-transaction t (transaction.store (t .transaction) i v)))
 
@@ -214,7 +214,7 @@ std N t v i mem = ran (passes t) (set mem i v)
 std T t v i mem = ran (logs t v i) mem
 std S t v i mem = ran (meets-own t i) (set mem i v)
 
--- 14. addi (RT, RA, SI): RA (0 if RA = 0) plus SI sign-extended from 16 bits
+-- 14. addi (RT, RA, SI): register 0 reads as zero, SI is signed
 abbrev pub extended : ℕ → ℕ
 extended si = cond (ltb si 0x8000) si (si + (2 ^ 64 - 2 ^ 16))
 
@@ -227,7 +227,7 @@ disallowed N t = passes t
 disallowed T t = fails t cause-disallowed
 disallowed S t = passes t
 
--- 16. interrupt taken: T to S; PR = 0, TM = 0; NIA kept. 17. the host sets PR and TM; NIA kept
+-- 16. an interrupt suspends and enters privileged state with the facility off. 17. the host's own setting. Neither moves NIA
 abbrev pub with-msr : Control → State → Bool → Bool → Control
 with-msr k s pr tm = record { nia = k .nia; pr = pr; tm = tm; state = s; doomed = k .doomed; tfhar = k .tfhar; tfiar = k .tfiar; texasr = k .texasr }
 

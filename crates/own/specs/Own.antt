@@ -34,7 +34,7 @@ advance t = with-control t (with-nia (t .control) (next (t .control .nia)))
 abbrev pub passes : Thread → Did
 passes t = did 0 (advance t)
 
--- TS is 00 in N, 10 in T, 01 in S
+-- the state as two bits
 abbrev pub ts : State → ℕ
 ts N = 0b00
 ts T = 0b10

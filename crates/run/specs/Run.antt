@@ -1,4 +1,4 @@
--- A tape run on a machine, record by record (document 01, "The tape": "A run first tests ..", "A run reads and does one record at a time").
+-- A tape run on a machine, record by record (document 01, "The tape").
 use Prim.Native.Nat.{ℕ, zero, suc, _+_, _*_, _/_, _%_}
 use mathlib.Core.Bool.{Bool, not, cond, _||_}
 use mathlib.Core.List.{List}
@@ -45,7 +45,7 @@ run-from (suc n) tape k m mem =
     let rest = run-from n tape (k + 1) (r .ended .machine) (r .memory) in
     cond (eqb (r .ended .count) k) r rest
 
--- a run first tests 1, 2 and 6 in that order, even for an empty tape
+-- the tests of the whole come before any record, and where there is none
 unfoldable pub run : Machine → List ℕ → List ℕ → Result
 run m mem tape =
     cond (not (sized m (length mem))) (result 1 0 m mem)

@@ -71,7 +71,7 @@ fn bad_thing(k: Control, n: u8) -> bool
     }
 }
 
-// Numbers 11 and 12.
+// Number 11.
 fn off(k: Control, n: u8) -> bool
     ensures { λ r. ⌜ r ≡ off k n ⌝ }
 {
@@ -81,6 +81,7 @@ fn off(k: Control, n: u8) -> bool
     n <= 11
 }
 
+// Number 12.
 fn forbidden(k: Control, n: u8) -> bool
     ensures { λ r. ⌜ r ≡ forbidden k n ⌝ }
 {

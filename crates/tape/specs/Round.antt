@@ -111,7 +111,7 @@ OneMeaning =
 abbrev pub EditionTwo : Type 0
 EditionTwo = (bs : List ℕ) → length bs ≡ record-size → byte bs 0 < 4 → read bs ≡ Refused 7
 
--- the paper's own record: std by thread 0 from r3 to 17
+-- document 01's own record, byte for byte
 abbrev pub PaperRecord : Type 0
 PaperRecord =
     bytes (fields-of 0 (Std 3 17)) ≡ 0xE3 ∷ 0x0D ∷ 0 ∷ 0 ∷ 3 ∷ 0 ∷ 0 ∷ 0 ∷ 0 ∷ 0 ∷ 0 ∷ 0x11 ∷ 0 ∷ 0 ∷ 0 ∷ 0 ∷ []

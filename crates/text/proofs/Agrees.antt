@@ -7,13 +7,14 @@ use Prim.Native.Nat.{ℕ, zero, suc, _+_, _/_, _%_}
 use native.Mathlib.Numerals.{add-one}
 use native.Mathlib.Omega.{arith}
 use lib.Dec.{T, eqb, ltb, eqb→eq}
-use lib.ListN.{length, getD}
+use lib.ListN.{length, getD, drop, take-append-drop}
+use lib.Seq.{length-take-le}
 use Rattle.machine.specs.Machine.{fresh, fresh-memory}
 use Rattle.machine.specs.declared.Machine.{Machine}
 use Rattle.tape.specs.Tape.{record-size, read}
 use Rattle.run.specs.Run.{Result, result, record-at, one, run-from, run}
 use Rattle.text.specs.Text.{longest, end-line, ragged, answers, lines, text}
-use Rattle.text.specs.Agrees.{Answered, Agrees, Counts}
+use Rattle.text.specs.Agrees.{Answered, Agrees, Counts, Allowed, OneText}
 use Rattle.text.proofs.Laws.{fresh-sized, fresh-valid}
 
 -- with k done before, the run's count is k and those done since
@@ -64,3 +65,15 @@ counted false input p q = (ragged, simp (p, q) (ap (λ (r : Result). ragged ++ e
 
 pub counts : (input : List ℕ) → ltb longest (length input) ≡ false → Counts input
 counts input q = counted (eqb (length input % record-size) 0) input refl q
+
+-- the answer is the text's length, and the buffer is the text with what was behind it
+length-of : (input old xs : List ℕ) (r : ℕ) → Allowed input old r xs → r ≡ length (text input)
+length-of input old xs r a = sym (length-take-le r xs (a .0)) ∙ ap length (a .1)
+
+buffer-of : (input old xs : List ℕ) (r : ℕ) → Allowed input old r xs → xs ≡ text input ++ drop (length (text input)) old
+buffer-of input old xs r a =
+    sym (take-append-drop r xs) ∙ (λ j. a .1 j ++ a .2 j) ∙ ap (λ (n : ℕ). text input ++ drop n old) (length-of input old xs r a)
+
+pub one-text : OneText
+one-text input old xs ys r s a b =
+    (length-of input old xs r a ∙ sym (length-of input old ys s b), buffer-of input old xs r a ∙ sym (buffer-of input old ys s b))

@@ -2,8 +2,8 @@
 use mathlib.Core.Path.{_≡_}
 use mathlib.Core.Logic.{_⊎_}
 use mathlib.Core.List.{List, _++_}
-use Prim.Native.Nat.{ℕ, _+_, _/_}
-use lib.ListN.{length, getD}
+use Prim.Native.Nat.{ℕ, _+_, _/_, _≤_}
+use lib.ListN.{length, getD, take, drop}
 use Rattle.machine.specs.Machine.{fresh, fresh-memory}
 use Rattle.tape.specs.Tape.{record-size}
 use Rattle.run.specs.Run.{run}
@@ -24,3 +24,11 @@ Agrees input = Answered (fresh-run input .answer) (fresh-run input .count) (answ
 -- the text's last line has the run's count
 abbrev pub Counts : List ℕ → Type 0
 Counts input = (before : List ℕ) × (text input ≡ before ++ end-line (fresh-run input .count))
+
+-- what the text's contract allows of its answer r and of the buffer, old before and xs after
+abbrev pub Allowed : List ℕ → List ℕ → ℕ → List ℕ → Type 0
+Allowed input old r xs = (r ≤ length xs) × (take r xs ≡ text input) × (drop r xs ≡ drop r old)
+
+-- two answers that it allows are one answer, with one buffer
+abbrev pub OneText : Type 0
+OneText = (input old xs ys : List ℕ) (r s : ℕ) → Allowed input old r xs → Allowed input old s ys → (r ≡ s) × (xs ≡ ys)

@@ -1,4 +1,4 @@
--- What the program writes for the bytes of standard input (document 01, "The tape": "A program runs standard input on a fresh machine ..").
+-- What the program writes for the bytes of standard input (document 01, "The tape").
 use Prim.Native.Nat.{ℕ, zero, suc, _+_, _/_, _%_}
 use mathlib.Core.Bool.{cond, not}
 use mathlib.Core.List.{List, [], _∷_, _++_}

@@ -39,7 +39,7 @@ with-texasr k x = record { nia = k .nia; pr = k .pr; tm = k .tm; state = k .stat
 abbrev pub in-state : Control → State → Bool → Control
 in-state k s d = record { nia = k .nia; pr = k .pr; tm = k .tm; state = s; doomed = d; tfhar = k .tfhar; tfiar = k .tfiar; texasr = k .texasr }
 
--- the checkpoint taken; registers and CR 1 to 7 from the checkpoint
+-- the checkpoint taken, and put back; CR0 is no part of it
 abbrev pub take-checkpoint : Thread → Thread
 take-checkpoint t = with-checkpoint t (t .live)
 
@@ -77,6 +77,6 @@ unfoldable pub recording : Thread → ℕ → Bool → ℕ → Thread
 recording t cause exact at =
     cond (failed (t .control)) t (with-transaction (with-control t (noted (t .control) cause exact at)) (transaction.discard (t .transaction)))
 
--- handling: registers and CR 1 to 7 from the checkpoint, CR0 = 0b1010, NIA = TFHAR, state N, TDOOMED = 0
+-- handling: the checkpoint put back, CR0 tells the failure, and the thread goes on at TFHAR in N
 unfoldable pub handling : Thread → Thread
 handling t = with-cr0 (with-control (restore t) (in-state (with-nia (t .control) (t .control .tfhar)) N false)) 0b1010

@@ -134,7 +134,7 @@ pub fn take_checkpoint(t: Thread) -> Thread
     u
 }
 
-// Registers and CR 1 to 7 from the checkpoint: CR0 stands apart and stays.
+// The checkpoint put back: CR0 stands apart and stays.
 pub fn restore(t: Thread) -> Thread
     ensures { λ r. ⌜ r ≡ restore t ⌝ }
 {

@@ -50,11 +50,11 @@ load x mem i = loaded (x .log) mem (lookup x i) i
 abbrev pub touches : Transaction → ℕ → Bool
 touches x l = lines.has (x .reads) l || lines.has (x .writes) l
 
--- (a) the access must add a new line while the footprint is 32
+-- (a) no room for the line
 unfoldable pub crowded : Transaction → ℕ → Bool
 crowded x l = not (touches x l) && leb most-footprint (lines.footprint (x .reads) (x .writes))
 
--- (a) a store needs a new log place while 64 are used
+-- (a) no room in the log
 unfoldable pub full : Transaction → Found → Bool
 full x (At n) = false
 full x Absent = leb most-places (x .count)
@@ -65,11 +65,11 @@ load-overflows x i = crowded x (line i)
 abbrev pub store-overflows : Transaction → ℕ → Bool
 store-overflows x i = crowded x (line i) || full x (lookup x i)
 
--- (d) a load adds its line to the read set
+-- (d) a tracked load
 abbrev pub join : Transaction → ℕ → Transaction
 join x i = record { reads = lines.with (x .reads) (line i); writes = x .writes; count = x .count; log = x .log }
 
--- (d) a store goes to the log, replacing a value already there, and adds its line to the write set
+-- (d) a store into the log, which has one place for a doubleword
 unfoldable pub store-at : Transaction → Found → ℕ → ℕ → Transaction
 store-at x (At n) i v =
     record { reads = x .reads; writes = lines.with (x .writes) (line i); count = x .count; log = set (x .log) n (record { index = i; value = v }) }

@@ -1,4 +1,4 @@
-// What a transaction holds, of either family: read set, write set and log (document 01, "The machine", "Loads, stores and conflicts").
+// What a transaction holds: read set, write set and log (document 01, "The machine", "Loads, stores and conflicts").
 ghost use mathlib.Core.Path.{_≡_};
 ghost use mathlib.Core.Bool.{false};
 ghost use Prim.Native.Nat.{_<_, _≤_};
@@ -109,7 +109,7 @@ pub fn full(x: Transaction, at: Found) -> bool
     }
 }
 
-// A load adds its line to the read set.
+// A tracked load.
 pub fn join(x: Transaction, index: u32) -> Transaction
     requires { ⌜ line index < lines ⌝ }
     ensures { λ r. ⌜ r ≡ join x index ⌝ }

@@ -1,7 +1,7 @@
-//! "Events": one case for each kind, with its operands and nothing else.
+//! "Events": a case for each kind.
 
-/// One event. Registers, BF, TO and SPR may be any byte and an index any 32
-/// bits; what is out of range is refused when the event is done.
+/// One event. Operands take any value of their width; what is out of range is
+/// refused when the event is done.
 #[derive(Clone, Copy, PartialEq, Eq, Hash, Debug)]
 pub enum Event {
     Tbegin { r: bool },

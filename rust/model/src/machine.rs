@@ -185,7 +185,7 @@ impl Thread {
         }
     }
 
-    /// The number of lines in either set, counted once.
+    /// How many lines the two sets have together.
     #[inline]
     pub fn footprint(&self) -> u32 {
         self.reads.union(&self.writes).len()

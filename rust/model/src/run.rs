@@ -9,9 +9,8 @@ use crate::{answer, tape};
 /// The longest input that the program runs, in bytes.
 pub const LONGEST: usize = 65_536;
 
-/// Runs a tape: reads and does one record at a time. Gives the answer that
-/// stopped it, 0 at the end, and how many records were done; the machine is
-/// the one after exactly those.
+/// Runs a tape. Gives the last answer (0 if nothing stopped it) and the number
+/// of records done, which are all that has changed the machine.
 pub fn run(m: &mut Machine, mem: &mut [u64], tape: &[u8]) -> (u8, usize) {
     watched(m, mem, tape, |_, _| {})
 }

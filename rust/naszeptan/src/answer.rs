@@ -7,7 +7,7 @@ use std::fmt;
 /// given back".
 ///
 /// The cases 0, 20 and 21 say that the event was done, all others that it was
-/// refused and that nothing has changed.
+/// refused and has changed nothing. In a run, the records before it stay done.
 ///
 /// ```
 /// use naszeptan::Answer;
@@ -129,7 +129,7 @@ impl fmt::Display for Answer {
             Answer::TapeLength => "the length is not a multiple of 16 bytes",
             Answer::BadFirstByte => "the first byte is not 0xE3",
             Answer::NoKind => "the kind is not 1 to 17",
-            Answer::Field => "an unused field is not 0, or flags are too big",
+            Answer::Field => "an unused field or a fixed byte is not 0, or flags are too big",
             Answer::ShortBuffer => "the buffer has under 16 bytes",
             Answer::FacilityOff => "the facility is off",
             Answer::Privileged => "a privileged instruction in problem state",

@@ -7,8 +7,8 @@ use crate::{raw, Answer};
 /// One event with its operands and nothing else (document 01, "Events"). The
 /// thread is named beside it.
 ///
-/// Registers, BF, TO and SPR may be any byte and an index any 32 bits: what is
-/// out of range is refused by the step, with 4.
+/// Operands take any value of their width: the step refuses what is out of
+/// range with 4.
 ///
 /// An event is displayed as an assembler would have it. A register is `r` and
 /// its number, a CR field `cr` and its number; flags are named; TO, SPR and
@@ -114,7 +114,7 @@ pub enum Event {
         /// SI, as its 16 bits.
         si: u16,
     },
-    /// 15: any instruction that fails a transaction.
+    /// 15: an instruction that a transaction does not allow.
     Disallowed,
     /// 16: an interrupt is taken.
     Interrupt,

@@ -4,8 +4,8 @@
 //! A [`Machine`] of one to four threads and a lent memory take [`Event`]s, one
 //! at a time or from a [`Tape`]. After each, registers, log, memory and
 //! [`Texasr`] are those that the project's document 01, "Build definition and
-//! exact rules", gives, bit for bit. What is not allowed is refused with an
-//! [`Answer`], and then nothing has changed.
+//! exact rules", gives, bit for bit. An event that is not allowed is refused
+//! with an [`Answer`] and changes nothing.
 //!
 //! The work is done by the proved archive. This crate gives it types; it adds
 //! no rules. The archive is x86-64 code. It keeps no state, so several threads

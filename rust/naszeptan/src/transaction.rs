@@ -69,7 +69,7 @@ impl Transaction {
         log: [Entry { index: 0, value: 0 }; PLACES],
     };
 
-    /// The number of lines in either set, counted once.
+    /// How many lines the two sets have together.
     pub fn footprint(&self) -> usize {
         self.reads.union(&self.writes).len()
     }

@@ -47,7 +47,7 @@ fn number_2_not_valid() {
         let before = b.clone();
         assert_eq!(step(&mut b.m, &mut b.mem, 9, e), 2);
         assert_eq!(step(&mut b.m, &mut b.mem, 0, ld(99, 9999)), 2);
-        // A run tests 1, 2, 6 in that order, even for an empty tape.
+        // The tests of the whole come first, also where there is no record.
         assert_eq!(run(&mut b.m, &mut b.mem, &[]), (2, 0));
         assert_eq!(run(&mut b.m, &mut b.mem, &[1]), (2, 0));
         assert_eq!(b, before);
