@@ -9,7 +9,7 @@ use Rattle.thread.specs.declared.Thread.{Thread}
 use Rattle.event.specs.declared.Event.{Event}
 use Rattle.event.specs.declared.Event.the-variants.{Tbegin, Tabort, Tabortwc, Tabortdc, Tsr, Ld, Std, Addi, Disallowed, Host}
 use Rattle.machine.specs.Machine.{thread, with-threads, fresh, fresh-memory}
-use Rattle.step.specs.Step.{Outcome, outcome, Fed, after}
+use Rattle.step.specs.Step.{Outcome, outcome, Fed, from, after}
 use Rattle.machine.specs.declared.Machine.{Machine}
 
 -- what is expected of a thread's registers afterwards
@@ -60,24 +60,17 @@ at a = with-threads fresh (set (fresh .threads) 0 (moved (thread (fresh .threads
 abbrev pub case : ℕ → List Fed → List ℕ → List Expect → Case
 case a events answers expects = record { start = at a; memory = fresh-memory; events = events; answers = answers; expects = expects }
 
--- events by thread 0, and by thread 1
-abbrev pub own : Event → Fed
-own e = record { by = 0; event = e }
-
-abbrev pub other : Event → Fed
-other e = record { by = 1; event = e }
-
 -- thread 0 privileged
 abbrev pub supervisor : Fed
-supervisor = own (Host false true)
+supervisor = from 0 (Host false true)
 
 -- loads of the first doublewords of n lines, the last line first
 abbrev pub loads : ℕ → List Fed
 loads zero = []
-loads (suc n) = own (Ld 0 (n * 16)) ∷ loads n
+loads (suc n) = from 0 (Ld 0 (n * 16)) ∷ loads n
 
 abbrev pub begins : ℕ → List Fed
-begins n = replicate n (own (Tbegin false))
+begins n = replicate n (from 0 (Tbegin false))
 
 -- 0xFFFFFFFF in doubleword 5
 abbrev pub all-ones : List ℕ
@@ -86,39 +79,39 @@ all-ones = set fresh-memory 5 0xFFFFFFFF
 -- r3 is loaded from doubleword 5; r4 is 0
 abbrev pub compares : Event → List ℕ → List Expect → Case
 compares e answers expects =
-    record { start = at 0; memory = all-ones; events = own (Ld 3 5) ∷ own (Tbegin false) ∷ own e ∷ []; answers = answers; expects = expects }
+    record { start = at 0; memory = all-ones; events = from 0 (Ld 3 5) ∷ from 0 (Tbegin false) ∷ from 0 e ∷ []; answers = answers; expects = expects }
 
 abbrev pub k1 : Case
 k1 =
-    case 0x1000 (own (Tbegin false) ∷ own (Addi 4 0 0) ∷ own (Tabort 0) ∷ []) (0 ∷ 0 ∷ 20 ∷ [])
+    case 0x1000 (from 0 (Tbegin false) ∷ from 0 (Addi 4 0 0) ∷ from 0 (Tabort 0) ∷ []) (0 ∷ 0 ∷ 20 ∷ [])
     (texasr 0 0x000000011C000001 ∷ tfiar 0 0x1009 ∷ tfhar 0 0x1004 ∷ cr0 0 0b1010 ∷ [])
 
 abbrev pub k2 : Case
 k2 =
-    case 0x1000 (own (Tbegin false) ∷ own (Addi 3 0 0x1A5) ∷ own (Tabort 3) ∷ []) (0 ∷ 0 ∷ 20 ∷ [])
+    case 0x1000 (from 0 (Tbegin false) ∷ from 0 (Addi 3 0 0x1A5) ∷ from 0 (Tabort 3) ∷ []) (0 ∷ 0 ∷ 20 ∷ [])
     (texasr 0 0xA50000011C000001 ∷ tfiar 0 0x1009 ∷ tfhar 0 0x1004 ∷ cr0 0 0b1010 ∷ [])
 
 abbrev pub k3 : Case
 k3 =
-    case 0x1000 (supervisor ∷ begins 2 ++ own Disallowed ∷ []) (0 ∷ 0 ∷ 0 ∷ 20 ∷ []) (texasr 0 0x008000000C000002 ∷ [])
+    case 0x1000 (supervisor ∷ begins 2 ++ from 0 Disallowed ∷ []) (0 ∷ 0 ∷ 0 ∷ 20 ∷ []) (texasr 0 0x008000000C000002 ∷ [])
 
 abbrev pub k4 : Case
 k4 =
-    case 0x1000 (own (Tbegin false) ∷ own (Ld 0 17) ∷ other (Std 0 16) ∷ []) (0 ∷ 0 ∷ 0 ∷ []) (texasr 0 0x0008000018000001 ∷ [])
+    case 0x1000 (from 0 (Tbegin false) ∷ from 0 (Ld 0 17) ∷ from 1 (Std 0 16) ∷ []) (0 ∷ 0 ∷ 0 ∷ []) (texasr 0 0x0008000018000001 ∷ [])
 
 abbrev pub k5 : Case
 k5 =
-    case 0x1000 (own (Tbegin false) ∷ own (Std 0 17) ∷ own (Tsr false) ∷ own (Std 0 16) ∷ []) (0 ∷ 0 ∷ 0 ∷ 21 ∷ []) (texasr 0 0x001000009C000001 ∷ [])
+    case 0x1000 (from 0 (Tbegin false) ∷ from 0 (Std 0 17) ∷ from 0 (Tsr false) ∷ from 0 (Std 0 16) ∷ []) (0 ∷ 0 ∷ 0 ∷ 21 ∷ []) (texasr 0 0x001000009C000001 ∷ [])
 
 -- the 33rd line
 abbrev pub k6 : Case
 k6 =
-    case 0x1000 (supervisor ∷ own (Tbegin false) ∷ loads 33) (replicate 34 0 ++ 20 ∷ []) (texasr 0 0x002000000C000001 ∷ [])
+    case 0x1000 (supervisor ∷ from 0 (Tbegin false) ∷ loads 33) (replicate 34 0 ++ 20 ∷ []) (texasr 0 0x002000000C000001 ∷ [])
 
 -- the 32nd line
 abbrev pub k6-done : Case
 k6-done =
-    case 0x1000 (supervisor ∷ own (Tbegin false) ∷ loads 32) (replicate 34 0) (texasr 0 0x00000001 ∷ [])
+    case 0x1000 (supervisor ∷ from 0 (Tbegin false) ∷ loads 32) (replicate 34 0) (texasr 0 0x00000001 ∷ [])
 
 -- at TL 15
 abbrev pub k7 : Case
@@ -132,11 +125,11 @@ k7-done =
 
 abbrev pub k8 : Case
 k8 =
-    case 0x1000 (own (Tbegin true) ∷ []) (0 ∷ []) (texasr 0 0x02000001 ∷ [])
+    case 0x1000 (from 0 (Tbegin true) ∷ []) (0 ∷ []) (texasr 0 0x02000001 ∷ [])
 
 abbrev pub k9 : Case
 k9 =
-    case (2 ^ 64 - 4) (own (Tbegin false) ∷ []) (0 ∷ []) (tfhar 0 0 ∷ [])
+    case (2 ^ 64 - 4) (from 0 (Tbegin false) ∷ []) (0 ∷ []) (tfhar 0 0 ∷ [])
 
 -- the word form aborts
 abbrev pub k10 : Case

@@ -18,15 +18,15 @@ use Rattle.machine.specs.Machine.{thread, no-thread}
 use Rattle.machine.specs.Valid.{sized}
 use Rattle.tape.specs.declared.Read.{Read}
 use Rattle.tape.specs.declared.Read.the-variants.{Record, Refused}
-use Rattle.tape.proofs.Round.{written}
+use Rattle.round.proofs.Round.{written}
 use Rattle.run.specs.Run.{goes-on}
 use Rattle.run.proofs.Steps as steps
-use Rattle.host.specs.Crossing.{state-of, state-number, control-right, right, control-of, raw-control, thread-of, raw-thread, machine-of, raw-machine, raw-at, no-raw-thread}
+use Rattle.crossing.specs.Crossing.{state-of, state-number, control-right, right, control-of, raw-control, thread-of, raw-thread, machine-of, raw-machine, raw-at, no-raw-thread}
 use Rattle.host.specs.Host.{number, met, outcome, event-read, step, run}
 use Rattle.host.specs.Promises.{Forth, ForthRight, Back, NoMachine, StopChangesNothing, EventCrosses}
-use Rattle.host.specs.declared.RawControl.{RawControl}
-use Rattle.host.specs.declared.RawThread.{RawThread}
-use Rattle.host.specs.declared.RawMachine.{RawMachine}
+use Rattle.crossing.specs.declared.RawControl.{RawControl}
+use Rattle.crossing.specs.declared.RawThread.{RawThread}
+use Rattle.crossing.specs.declared.RawMachine.{RawMachine}
 
 -- ---- flags, states, control registers
 

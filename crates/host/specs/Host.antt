@@ -13,8 +13,8 @@ use Rattle.tape.specs.declared.Fields.{Fields}
 use Rattle.tape.specs.declared.Read.{Read}
 use Rattle.tape.specs.declared.Read.the-variants.{Record, Refused}
 use Rattle.run.specs.Run as tape-run
-use Rattle.host.specs.Crossing.{right, machine-of, raw-machine}
-use Rattle.host.specs.declared.RawMachine.{RawMachine}
+use Rattle.crossing.specs.Crossing.{right, machine-of, raw-machine}
+use Rattle.crossing.specs.declared.RawMachine.{RawMachine}
 use Rattle.host.specs.declared.RawDone.{RawDone}
 use Rattle.host.specs.declared.RawEnded.{RawEnded}
 use Rattle.host.specs.declared.RawRecord.{RawRecord}

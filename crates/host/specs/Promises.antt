@@ -12,9 +12,9 @@ use Rattle.tape.specs.Fields.{fields-of}
 use Rattle.tape.specs.declared.Fields.{Fields}
 use Rattle.tape.specs.declared.Read.the-variants.{Record}
 use Rattle.run.specs.Run.{goes-on}
-use Rattle.host.specs.Crossing.{right, machine-of, raw-machine}
+use Rattle.crossing.specs.Crossing.{right, machine-of, raw-machine}
 use Rattle.host.specs.Host.{outcome, event-read, step, result, run}
-use Rattle.host.specs.declared.RawMachine.{RawMachine}
+use Rattle.crossing.specs.declared.RawMachine.{RawMachine}
 
 -- a machine that crosses and comes back is the same
 abbrev pub Forth : Type 0

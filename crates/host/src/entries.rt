@@ -1,14 +1,13 @@
 // What a host calls. No contract asks anything of the caller but that a pointer and its length are true.
 ghost use mathlib.Core.Path.{_≡_};
 ghost use Rattle.machine.specs.Machine.{fresh};
-ghost use Rattle.host.specs.Crossing.{raw-machine, machine-of};
+ghost use Rattle.crossing.specs.Crossing.{raw-machine, machine-of};
 ghost use Rattle.host.specs.Host.{version, machine-number, number, first-of, step, run, read, write-answer, write};
 use crate::RawDone;
 use crate::RawEnded;
-use crate::RawMachine;
 use crate::RawRecord;
 use crate::VERSION;
-use crate::crossing;
+use crossing::RawMachine;
 use machine::Machine;
 use tape::Fields;
 use tape::Read;

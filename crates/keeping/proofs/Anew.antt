@@ -11,7 +11,7 @@ use Rattle.base.specs.Limits.{most-footprint, most-levels}
 use Rattle.base.proofs.Below.{fork, all-at, all-from}
 use Rattle.lines.specs.Lines as lineset
 use Rattle.transaction.specs.declared.Transaction.{Transaction}
-use Rattle.own.specs.Own.{next, advance, ts-field, cr0-from-state, put-gpr}
+use Rattle.common.specs.Common.{next, advance, ts-field, cr0-from-state, put-gpr}
 use Rattle.own.specs.Events.{put-cr}
 use Rattle.thread.specs.Texasr.{tl}
 use Rattle.thread.specs.Thread.{with-live, with-cr0, with-control, with-transaction, take-checkpoint}

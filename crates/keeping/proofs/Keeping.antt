@@ -19,11 +19,11 @@ use Rattle.event.specs.declared.Event.{Event}
 use Rattle.own.specs.Events.{own}
 use Rattle.machine.specs.Machine.{thread, no-thread, with-threads}
 use Rattle.machine.specs.Valid.{sized, thread-valid, valid}
-use Rattle.step.specs.Refusal.{refused-later, refusal}
+use Rattle.refusal.specs.Refusal.{refused-later, refusal}
 use Rattle.step.specs.Step.{Outcome, perform, step}
 use Rattle.machine.specs.declared.Machine.{Machine}
 use Rattle.machine.proofs.Validity.{valid-memory-sized, valid-count, valid-thread}
-use Rattle.step.proofs.Refusals.{passed-thread, passed-operands, passed-there, refusal-valid}
+use Rattle.refusal.proofs.Laws.{passed-thread, passed-operands, passed-there, refusal-valid}
 use Rattle.keeping.proofs.Own.{own-length, own-keeps}
 use Rattle.keeping.proofs.Sets.{Stores, Loads, writes-touch, own-writes, own-touches}
 use Rattle.keeping.proofs.Others.{Strikes, strikes, strikes-length, Fits, Met, strikes-met}

@@ -19,7 +19,7 @@ use Rattle.event.specs.declared.Event.the-variants.{Tbegin, Tend, Tabort, Tabor
 use Rattle.own.specs.Events.{overflows}
 use Rattle.machine.specs.Machine.{thread}
 use Rattle.machine.specs.Valid.{thread-valid, zero-thread}
-use Rattle.step.specs.Conflict.{struck, strike, others}
+use Rattle.conflict.specs.Conflict.{struck, strike, others}
 use Rattle.keeping.proofs.Held.{nothing-is-empty, empty-touches}
 use Rattle.keeping.proofs.Fails.{shaped-sets}
 use Rattle.keeping.proofs.Sets.{Stores, Loads, writes-touch}

@@ -18,9 +18,11 @@ use Rattle.event.specs.Event.{kind, operands-right}
 use Rattle.event.specs.declared.Event.{Event}
 use Rattle.event.specs.declared.Event.the-variants.{Tbegin, Tend, Tabort, Tabortwc, Tabortdc, Tsr, Tcheck, Treclaim, Trechkpt, Mtspr, Mfspr, Ld, Std, Addi, Disallowed, Interrupt, Host}
 use Rattle.event.proofs.Laws.{access-in}
-use Rattle.own.specs.Own.{Ran, passes, cr0-from-state, put-gpr, own-recording, fails, dooms}
-use Rattle.own.specs.Events.{cr0-only, leveled, begins, tbegin, commits, tend, abort-cause, tabort, tabort-if, moves, tsuspend, tresume, tsr, check-field, tcheck, treclaim, trechkpt, special, put-spr, mtspr, mfspr, tracked, ld-overflows, std-overflows, takes, joins, ld, logs, meets-own, std, addi, disallowed, interrupted, interrupt, host, own}
-use Rattle.own.specs.declared.Did.{Did}
+use Rattle.common.specs.Common.{Ran, passes, cr0-from-state, put-gpr, own-recording, fails, dooms, cr0-only, leveled}
+use Rattle.access.specs.Access.{tracked, ld-overflows, std-overflows, takes, joins, ld, logs, meets-own, std}
+use Rattle.aborts.specs.Aborts.{abort-cause, tabort, tabort-if}
+use Rattle.own.specs.Events.{begins, tbegin, commits, tend, moves, tsuspend, tresume, tsr, check-field, tcheck, treclaim, trechkpt, special, put-spr, mtspr, mfspr, addi, disallowed, interrupted, interrupt, host, own}
+use Rattle.common.specs.declared.Did.{Did}
 use Rattle.thread.specs.Texasr.{tl, begun}
 use Rattle.thread.specs.Thread.{with-control, failed, recording}
 use Rattle.thread.specs.declared.State.{State}
@@ -29,7 +31,7 @@ use Rattle.thread.specs.declared.Control.{Control}
 use Rattle.thread.specs.declared.Thread.{Thread}
 use Rattle.thread.proofs.Laws.{begun-fs, begun-tl}
 use Rattle.machine.specs.Valid.{memory-sized, thread-valid}
-use Rattle.step.specs.Refusal.{host-in-t, off, forbidden, bad-thing, refused-there}
+use Rattle.refusal.specs.Refusal.{host-in-t, off, forbidden, bad-thing, refused-there}
 use Rattle.machine.proofs.Validity.{memory-most}
 use Rattle.keeping.proofs.Held.{join-shaped, store-shaped, join-held, store-held, join-footprint, store-footprint}
 use Rattle.keeping.proofs.Fails.{Filed, Addressed, Live, Rules, Right, right, valid, doomed-empty, undoomed-live, empty-holds, handled, failure-t, failure-s}

@@ -21,9 +21,11 @@ use Rattle.event.specs.Event.{operands-right}
 use Rattle.event.specs.declared.Event.{Event}
 use Rattle.event.specs.declared.Event.the-variants.{Tbegin, Tend, Tabort, Tabortwc, Tabortdc, Tsr, Tcheck, Treclaim, Trechkpt, Mtspr, Mfspr, Ld, Std, Addi, Disallowed, Interrupt, Host}
 use Rattle.event.proofs.Laws.{access-in}
-use Rattle.own.specs.Own.{Ran, passes, cr0-from-state, fails, dooms}
-use Rattle.own.specs.Events.{takes, joins, tbegin, commits, tend, tabort, tabort-if, tsuspend, tresume, tsr, tcheck, treclaim, trechkpt, mtspr, mfspr, tracked, ld-overflows, std-overflows, overflows, ld, logs, meets-own, std, addi, disallowed, interrupt, host, own}
-use Rattle.own.specs.declared.Did.{Did}
+use Rattle.common.specs.Common.{Ran, passes, cr0-from-state, fails, dooms}
+use Rattle.access.specs.Access.{takes, joins, tracked, ld-overflows, std-overflows, ld, logs, meets-own, std}
+use Rattle.aborts.specs.Aborts.{tabort, tabort-if}
+use Rattle.own.specs.Events.{tbegin, commits, tend, tsuspend, tresume, tsr, tcheck, treclaim, trechkpt, mtspr, mfspr, overflows, addi, disallowed, interrupt, host, own}
+use Rattle.common.specs.declared.Did.{Did}
 use Rattle.machine.specs.Valid.{memory-sized, thread-valid}
 use Rattle.keeping.proofs.Held.{Shaped, join-has, store-has, store-reads, empty-touches}
 use Rattle.keeping.proofs.Fails.{valid-shaped}

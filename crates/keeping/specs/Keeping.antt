@@ -6,7 +6,7 @@ use Prim.Native.Nat.{ℕ}
 use lib.ListN.{length}
 use Rattle.event.specs.declared.Event.{Event}
 use Rattle.machine.specs.Valid.{valid}
-use Rattle.step.specs.Refusal.{refusal}
+use Rattle.refusal.specs.Refusal.{refusal}
 use Rattle.step.specs.Step.{outcome, step}
 use Rattle.machine.specs.declared.Machine.{Machine}
 use Rattle.step.specs.declared.Done.{Done}

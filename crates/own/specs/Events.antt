@@ -1,4 +1,4 @@
--- What each event that is not refused does to its own thread and to memory (document 01, "Events", and "Loads, stores and conflicts" (a), (b) and (d)).
+-- What each event that is not refused does to its own thread and to memory (document 01, "Events"). The aborts are in `aborts/specs/Aborts`, ld and std in `access/specs/Access`.
 -- Clauses by state first. Where document 01 has a Bad Thing, the event is refused, and the clause here is never reached.
 use Prim.Native.Nat.{ℕ, _+_, _-_, _*_, _%_, _^_}
 use mathlib.Core.Bool.{Bool, true, false, not, cond, _&&_, _||_}
@@ -9,8 +9,8 @@ use Rattle.base.specs.Limits.{most-levels}
 use Rattle.base.specs.Below.{bit}
 use Rattle.transaction.specs.Transaction as transaction
 use Rattle.transaction.specs.declared.Transaction.{Transaction}
-use Rattle.thread.specs.Texasr.{rot, tl, upper, lower, begun, cause-disallowed, cause-nesting, cause-footprint, cause-self, cause-abort}
-use Rattle.thread.specs.Thread.{with-live, with-cr0, with-control, with-transaction, with-texasr, in-state, take-checkpoint, restore, failed, handling}
+use Rattle.thread.specs.Texasr.{tl, upper, lower, begun, cause-disallowed, cause-nesting}
+use Rattle.thread.specs.Thread.{with-live, with-cr0, with-control, with-transaction, with-texasr, in-state, take-checkpoint, restore, handling}
 use Rattle.thread.specs.declared.Registers.{Registers}
 use Rattle.thread.specs.declared.State.{State}
 use Rattle.thread.specs.declared.State.the-variants.{N, T, S}
@@ -18,17 +18,10 @@ use Rattle.thread.specs.declared.Control.{Control}
 use Rattle.thread.specs.declared.Thread.{Thread}
 use Rattle.event.specs.declared.Event.{Event}
 use Rattle.event.specs.declared.Event.the-variants.{Tbegin, Tend, Tabort, Tabortwc, Tabortdc, Tsr, Tcheck, Treclaim, Trechkpt, Mtspr, Mfspr, Ld, Std, Addi, Disallowed, Interrupt, Host}
-use Rattle.own.specs.Own.{Ran, did, ran, next, advance, passes, ts-field, cr0-from-state, gpr, put-gpr, gpr-or-0, own-recording, fails, dooms}
-use Rattle.own.specs.Compare.{holds-in-words, holds-in-doublewords}
-use Rattle.own.specs.declared.Did.{Did}
-
--- CR0 from state, and on to the next instruction
-abbrev pub cr0-only : Thread → Did
-cr0-only t = passes (cr0-from-state t)
-
--- the same with TEXASR anew, for a level up or down
-abbrev pub leveled : Thread → ℕ → Did
-leveled t x = passes (cr0-from-state (with-control t (with-texasr (t .control) x)))
+use Rattle.common.specs.Common.{Ran, did, ran, next, advance, passes, ts-field, cr0-from-state, cr0-only, leveled, gpr, put-gpr, gpr-or-0, own-recording, fails}
+use Rattle.access.specs.Access.{ld-overflows, std-overflows, ld, std}
+use Rattle.aborts.specs.Aborts.{abort-cause, tabort, tabortwc, tabortdc}
+use Rattle.common.specs.declared.Did.{Did}
 
 -- 1. tbegin. (R)
 abbrev pub begins : Thread → Bool → Control
@@ -70,24 +63,7 @@ tend T t a mem =
     (ran (leveled t (t .control .texasr - 1)) mem)
 tend S t a mem = ran (cr0-only t) mem
 
--- 3. tabort. (RA): the cause by RA, recorded in T and S
-abbrev pub abort-cause : Thread → ℕ → ℕ
-abort-cause t ra = cause-abort (gpr-or-0 t ra % 2 ^ 8)
-
-unfoldable pub tabort : State → Thread → ℕ → Did
-tabort N t cause = cr0-only t
-tabort T t cause = fails t cause
-tabort S t cause = dooms (cr0-from-state t) cause
-
--- 4, 5. tabortwc., tabortdc.: the cause of RA = 0, where one of the comparisons asked for is true
-unfoldable pub tabort-if : Thread → Bool → Did
-tabort-if t held = cond held (tabort (t .control .state) t (cause-abort 0)) (cr0-only t)
-
-abbrev pub tabortwc : Thread → ℕ → ℕ → ℕ → Did
-tabortwc t to ra rb = tabort-if t (holds-in-words to (gpr t ra) (gpr t rb))
-
-abbrev pub tabortdc : Thread → ℕ → ℕ → ℕ → Did
-tabortdc t to ra rb = tabort-if t (holds-in-doublewords to (gpr t ra) (gpr t rb))
+-- 3 to 5. tabort., tabortwc., tabortdc.: `aborts/specs/Aborts`
 
 -- 6. tsr. (L): L = 0 is T to S; L = 1 is S to T, and handling if TDOOMED
 abbrev pub moves : Thread → State → Did
@@ -156,21 +132,7 @@ get-spr k spr =
 unfoldable pub mfspr : Thread → ℕ → ℕ → Did
 mfspr t rt spr = passes (put-gpr t rt (get-spr (t .control) spr))
 
--- (a) overflow, only in T; under ROT a load is not tracked
-abbrev pub tracked : Thread → Bool
-tracked t = eqb (rot (t .control .texasr)) 0
-
-unfoldable pub ld-overflows : State → Thread → ℕ → Bool
-ld-overflows N t i = false
-ld-overflows T t i = tracked t && transaction.load-overflows (t .transaction) i
-ld-overflows S t i = false
-
-unfoldable pub std-overflows : State → Thread → ℕ → Bool
-std-overflows N t i = false
-std-overflows T t i = transaction.store-overflows (t .transaction) i
-std-overflows S t i = false
-
--- an access that overflows is not made
+-- 12, 13. ld, std: `access/specs/Access`; an access that overflows is not made
 unfoldable pub overflows : Event → Thread → Bool
 overflows (Tbegin r) t = false
 overflows (Tend a) t = false
@@ -189,30 +151,6 @@ overflows (Addi rt ra si) t = false
 overflows Disallowed t = false
 overflows Interrupt t = false
 overflows (Host pr tm) t = false
-
--- 12. ld (RT, index): (a), then (d): the log's value if one is there, else memory's; in T the line joins the read set unless ROT
-abbrev pub takes : Thread → ℕ → ℕ → List ℕ → Did
-takes t rt i mem = passes (put-gpr t rt (transaction.load (t .transaction) mem i))
-
-abbrev pub joins : Thread → ℕ → Thread
-joins t i = with-transaction t (transaction.join (t .transaction) i)
-
-unfoldable pub ld : State → Thread → ℕ → ℕ → List ℕ → Did
-ld N t rt i mem = takes t rt i mem
-ld T t rt i mem = cond (ld-overflows T t i) (fails t cause-footprint) (takes (cond (tracked t) (joins t i) t) rt i mem)
-ld S t rt i mem = takes t rt i mem
-
--- 13. std (RA, index): (a), then (b) where the suspended thread meets its own sets, then (d)
-unfoldable pub logs : Thread → ℕ → ℕ → Did
-logs t v i = cond (std-overflows T t i) (fails t cause-footprint) (passes (with-transaction t (transaction.store (t .transaction) i v)))
-
-unfoldable pub meets-own : Thread → ℕ → Did
-meets-own t i = cond (transaction.touches (t .transaction) (transaction.line i)) (dooms t cause-self) (passes t)
-
-unfoldable pub std : State → Thread → ℕ → ℕ → List ℕ → Ran
-std N t v i mem = ran (passes t) (set mem i v)
-std T t v i mem = ran (logs t v i) mem
-std S t v i mem = ran (meets-own t i) (set mem i v)
 
 -- 14. addi (RT, RA, SI): register 0 reads as zero, SI is signed
 abbrev pub extended : ℕ → ℕ

@@ -1,9 +1,5 @@
 // What an event does to its own thread: one function for each kind, or for a family of kinds (document 01, "Events").
-pub mod aborts;
-pub mod access;
 pub mod begins;
-pub mod common;
-pub mod compare;
 pub mod plain;
 pub mod reclaims;
 pub mod special;
@@ -15,14 +11,9 @@ ghost use lib.ListN.{length};
 ghost use Rattle.base.specs.Limits.{line-size, lines, most-places};
 ghost use Rattle.event.specs.Event.{operands-right};
 ghost use Rattle.own.specs.Events.{own};
+use common::Did;
 use event::Event;
 use thread::Thread;
-
-// The answer, 0, 20 or 21, and the thread afterwards.
-pub struct Did {
-    pub answer: u8,
-    pub thread: Thread,
-}
 
 // The event on its own thread and on memory.
 pub fn own(e: Event, t: Thread, mem: &mut [u64]) -> Did

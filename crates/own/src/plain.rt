@@ -2,8 +2,7 @@
 ghost use mathlib.Core.Path.{_≡_};
 ghost use Prim.Native.Nat.{_<_};
 ghost use Rattle.own.specs.Events.{extended, addi, disallowed, with-msr, interrupted, interrupt, host};
-use crate::Did;
-use crate::common;
+use common::Did;
 use thread::Control;
 use thread::State;
 use thread::Thread;

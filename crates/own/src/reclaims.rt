@@ -2,9 +2,7 @@
 ghost use mathlib.Core.Path.{_≡_};
 ghost use Prim.Native.Nat.{_<_};
 ghost use Rattle.own.specs.Events.{check-field, put-cr, tcheck, reclaims, treclaim, trechkpt};
-use crate::Did;
-use crate::aborts;
-use crate::common;
+use common::Did;
 use thread::Control;
 use thread::State;
 use thread::Thread;

@@ -2,8 +2,7 @@
 ghost use mathlib.Core.Path.{_≡_};
 ghost use Prim.Native.Nat.{_<_};
 ghost use Rattle.own.specs.Events.{put-spr, mtspr, get-tfiar, get-spr, mfspr};
-use crate::Did;
-use crate::common;
+use common::Did;
 use thread::Control;
 use thread::Thread;
 

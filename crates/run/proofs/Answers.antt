@@ -14,10 +14,12 @@ use Rattle.thread.specs.Thread.{failed}
 use Rattle.thread.specs.declared.State.{State}
 use Rattle.thread.specs.declared.State.the-variants.{N, T, S}
 use Rattle.thread.specs.declared.Thread.{Thread}
-use Rattle.own.specs.Own.{Ran, cr0-from-state, gpr, fails, dooms}
-use Rattle.own.specs.Compare.{holds-in-words, holds-in-doublewords}
-use Rattle.own.specs.Events.{tbegin, commits, tend, abort-cause, tabort, tabort-if, tsuspend, tresume, tsr, tcheck, treclaim, trechkpt, mtspr, mfspr, ld-overflows, std-overflows, ld, logs, meets-own, std, addi, disallowed, interrupt, host, own}
-use Rattle.own.specs.declared.Did.{Did}
+use Rattle.common.specs.Common.{Ran, cr0-from-state, gpr, fails, dooms}
+use Rattle.aborts.specs.Compare.{holds-in-words, holds-in-doublewords}
+use Rattle.access.specs.Access.{ld-overflows, std-overflows, ld, logs, meets-own, std}
+use Rattle.aborts.specs.Aborts.{abort-cause, tabort, tabort-if}
+use Rattle.own.specs.Events.{tbegin, commits, tend, tsuspend, tresume, tsr, tcheck, treclaim, trechkpt, mtspr, mfspr, addi, disallowed, interrupt, host, own}
+use Rattle.common.specs.declared.Did.{Did}
 use Rattle.run.specs.Run.{goes-on}
 
 abbrev Done : Did → Type 0

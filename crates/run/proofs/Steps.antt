@@ -12,10 +12,10 @@ use Rattle.base.proofs.Below.{fork}
 use Rattle.event.specs.declared.Event.{Event}
 use Rattle.machine.specs.Machine.{thread}
 use Rattle.machine.specs.Valid.{sized, valid}
-use Rattle.step.specs.Refusal.{refusal}
-use Rattle.step.specs.Step.{Outcome, outcome, perform, step, Fed, feed}
+use Rattle.refusal.specs.Refusal.{refusal}
+use Rattle.step.specs.Step.{Outcome, outcome, perform, step, Fed, feed, from}
 use Rattle.machine.specs.declared.Machine.{Machine}
-use Rattle.step.proofs.Refusals.{step-refused, step-passed}
+use Rattle.step.proofs.Laws.{step-refused, step-passed}
 use Rattle.tape.specs.Tape.{record-size, read}
 use Rattle.tape.specs.declared.Read.{Read}
 use Rattle.tape.specs.declared.Read.the-variants.{Record, Refused}
@@ -79,7 +79,7 @@ another : (tape : List ℕ) (k : ℕ) (o : Outcome) (r : Result) (w : ℕ) (e : 
     → After tape (k + 1) (step (o .done .machine) (o .memory) w e) r → After tape k o r
 unfolding events feed
 another tape k o r w e p a =
-    let f : fed (read (record-at tape k)) ≡ record { by = w; event = e } ∷ [] = ap fed p in
+    let f : fed (read (record-at tape k)) ≡ from w e ∷ [] = ap fed p in
     record {
       c = suc (a .c);
       count = a .count ∙ (let z : k + 1 + a .c ≡ k + suc (a .c) = omega arith in z);

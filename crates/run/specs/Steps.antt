@@ -5,7 +5,7 @@ use mathlib.Core.List.{List, [], _∷_, _++_}
 use Prim.Native.Nat.{ℕ, zero, suc, _+_}
 use lib.ListN.{length}
 use Rattle.machine.specs.Valid.{valid}
-use Rattle.step.specs.Step.{outcome, step, Fed, feed}
+use Rattle.step.specs.Step.{outcome, step, Fed, from, feed}
 use Rattle.machine.specs.declared.Machine.{Machine}
 use Rattle.event.specs.declared.Event.{Event}
 use Rattle.tape.specs.Tape.{read}
@@ -15,7 +15,7 @@ use Rattle.run.specs.Run.{goes-on, record-at, run}
 
 -- the event of a record, if it is one
 abbrev pub fed : Read → List Fed
-fed (Record w e) = record { by = w; event = e } ∷ []
+fed (Record w e) = from w e ∷ []
 fed (Refused n) = []
 
 -- the events of n records of a tape, from record k on

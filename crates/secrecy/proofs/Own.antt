@@ -26,10 +26,12 @@ use Rattle.thread.specs.declared.Thread.{Thread}
 use Rattle.event.specs.Event.{kind}
 use Rattle.event.specs.declared.Event.{Event}
 use Rattle.event.specs.declared.Event.the-variants.{Tbegin, Tend, Tabort, Tabortwc, Tabortdc, Tsr, Tcheck, Treclaim, Trechkpt, Mtspr, Mfspr, Ld, Std, Addi, Disallowed, Interrupt, Host}
-use Rattle.own.specs.Own.{Ran, did, ran, passes, gpr, fails}
-use Rattle.own.specs.Events.{tbegin, commits, tend, abort-cause, tabort, tresume, tsr, tcheck, treclaim, mfspr, tracked, ld-overflows, std-overflows, overflows, takes, ld, logs, std, addi, disallowed, host, own}
-use Rattle.own.specs.declared.Did.{Did}
-use Rattle.step.specs.Refusal.{bad-thing, refused-there}
+use Rattle.common.specs.Common.{Ran, did, ran, passes, gpr, fails}
+use Rattle.access.specs.Access.{tracked, ld-overflows, std-overflows, takes, ld, logs, std}
+use Rattle.aborts.specs.Aborts.{abort-cause, tabort}
+use Rattle.own.specs.Events.{tbegin, commits, tend, tresume, tsr, tcheck, treclaim, mfspr, overflows, addi, disallowed, host, own}
+use Rattle.common.specs.declared.Did.{Did}
+use Rattle.refusal.specs.Refusal.{bad-thing, refused-there}
 use Rattle.keeping.proofs.Own.{not-bad}
 use Rattle.secrecy.specs.Secrecy.{AlikeThread, tells}
 

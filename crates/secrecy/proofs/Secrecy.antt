@@ -6,7 +6,7 @@ use mathlib.Core.List.{List, [], _∷_, _++_}
 use Prim.Native.Nat.{ℕ}
 use lib.ListN.{length}
 use Rattle.machine.specs.Valid.{valid}
-use Rattle.step.specs.Refusal.{in-t}
+use Rattle.refusal.specs.Refusal.{in-t}
 use Rattle.step.specs.Step.{Outcome, outcome, step, Fed, after, feed}
 use Rattle.machine.specs.declared.Machine.{Machine}
 use Rattle.keeping.proofs.Keeping.{keeps}

@@ -16,16 +16,17 @@ use Rattle.thread.specs.declared.Control.{Control}
 use Rattle.thread.specs.declared.Thread.{Thread}
 use Rattle.event.specs.Event.{kind, operands-right}
 use Rattle.event.specs.declared.Event.{Event}
-use Rattle.own.specs.Own.{Ran}
+use Rattle.common.specs.Common.{Ran}
 use Rattle.own.specs.Events.{overflows, own}
 use Rattle.machine.specs.Machine.{thread, no-thread}
 use Rattle.machine.specs.Valid.{thread-valid, zero-state, valid}
-use Rattle.step.specs.Refusal.{in-t, refused-there, refused-later, refusal}
-use Rattle.step.specs.Conflict.{others}
+use Rattle.refusal.specs.Refusal.{in-t, refused-there, refused-later, refusal}
+use Rattle.conflict.specs.Conflict.{others}
 use Rattle.step.specs.Step.{perform, step}
 use Rattle.machine.specs.declared.Machine.{Machine}
 use Rattle.machine.proofs.Validity.{valid-thread}
-use Rattle.step.proofs.Refusals.{passed-there, step-refused, step-passed, refusal-valid}
+use Rattle.refusal.proofs.Laws.{passed-there, refusal-valid}
+use Rattle.step.proofs.Laws.{step-refused, step-passed}
 use Rattle.keeping.proofs.Fails.{live-unfailed-t, valid-shaped}
 use Rattle.keeping.proofs.Struck.{zero-in-n}
 use Rattle.keeping.proofs.Others.{Fits}

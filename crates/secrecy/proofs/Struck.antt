@@ -16,7 +16,7 @@ use Rattle.thread.specs.declared.Thread.{Thread}
 use Rattle.event.specs.declared.Event.{Event}
 use Rattle.event.specs.declared.Event.the-variants.{Tbegin, Tend, Tabort, Tabortwc, Tabortdc, Tsr, Tcheck, Treclaim, Trechkpt, Mtspr, Mfspr, Ld, Std, Addi, Disallowed, Interrupt, Host}
 use Rattle.machine.specs.Machine.{thread, no-thread}
-use Rattle.step.specs.Conflict.{hits, conflict-cause, struck, strike, access, others}
+use Rattle.conflict.specs.Conflict.{hits, conflict-cause, struck, strike, access, others}
 use Rattle.secrecy.specs.Secrecy.{AlikeThread}
 use Rattle.secrecy.proofs.Own.{Even, both, set-both, beside, is-beside, failure-same}
 

@@ -8,7 +8,7 @@ use Rattle.event.specs.declared.Event.{Event}
 use Rattle.event.specs.declared.Event.the-variants.{Ld}
 use Rattle.machine.specs.Machine.{thread}
 use Rattle.machine.specs.Valid.{valid}
-use Rattle.step.specs.Step.{Outcome, outcome, step, Fed}
+use Rattle.step.specs.Step.{Outcome, outcome, step, Fed, from}
 use Rattle.machine.specs.declared.Machine.{Machine}
 use Rattle.secrecy.specs.Secrecy.{Alike, allowed, Stepping, after-by, Until, Agree}
 
@@ -16,7 +16,7 @@ use Rattle.secrecy.specs.Secrecy.{Alike, allowed, Stepping, after-by, Un
 abbrev pub OneEvent : Type 0
 OneEvent =
     (w : ℕ) (m n : Machine) (mem : List ℕ) (v : ℕ) (e : Event) → valid m (length mem) ≡ true → valid n (length mem) ≡ true → Alike w m n
-    → allowed w (record { by = v; event = e }) (outcome 0 m mem) ≡ true
+    → allowed w (from v e) (outcome 0 m mem) ≡ true
     → (step m mem v e .done .answer ≡ step n mem v e .done .answer) × Agree w (step m mem v e) (step n mem v e)
 
 -- another thread's load: its answer, and all of that thread after it, whatever the transaction has stored

@@ -13,7 +13,7 @@ use Rattle.thread.specs.declared.Thread.{Thread}
 use Rattle.event.specs.declared.Event.{Event}
 use Rattle.machine.specs.Machine.{thread, with-threads}
 use Rattle.machine.specs.Valid.{valid}
-use Rattle.step.specs.Step.{outcome, step}
+use Rattle.step.specs.Step.{outcome, step, from}
 use Rattle.machine.specs.declared.Machine.{Machine}
 use Rattle.secrecy.specs.Secrecy.{Alike, allowed, Agree}
 
@@ -47,5 +47,5 @@ Erased =
 abbrev pub ErasedEvent : Type 0
 ErasedEvent =
     (w : ℕ) (m : Machine) (mem : List ℕ) (v : ℕ) (e : Event) → valid m (length mem) ≡ true → thread (m .threads) w .control .state ≡ T
-    → allowed w (record { by = v; event = e }) (outcome 0 m mem) ≡ true
+    → allowed w (from v e) (outcome 0 m mem) ≡ true
     → (step m mem v e .done .answer ≡ step (erase w m) mem v e .done .answer) × Agree w (step m mem v e) (step (erase w m) mem v e)

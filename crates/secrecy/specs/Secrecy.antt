@@ -14,7 +14,7 @@ use Rattle.event.specs.declared.Event.the-variants.{Tbegin, Tend, Tabort, Tabor
 use Rattle.own.specs.Events.{commits}
 use Rattle.machine.specs.Machine.{thread}
 use Rattle.machine.specs.Valid.{valid}
-use Rattle.step.specs.Refusal.{in-t, refusal}
+use Rattle.refusal.specs.Refusal.{in-t, refusal}
 use Rattle.step.specs.Step.{Outcome, outcome, step, Fed, feed}
 use Rattle.machine.specs.declared.Machine.{Machine}
 

@@ -1,3 +1,1 @@
-pub mod Refusal
-pub mod Conflict
 pub mod Step

@@ -6,11 +6,11 @@ use lib.Dec.{eqb}
 use lib.ListN.{set, length}
 use Rattle.thread.specs.declared.Thread.{Thread}
 use Rattle.event.specs.declared.Event.{Event}
-use Rattle.own.specs.Own.{Ran}
+use Rattle.common.specs.Common.{Ran}
 use Rattle.own.specs.Events.{overflows, own}
 use Rattle.machine.specs.Machine.{thread, with-threads}
-use Rattle.step.specs.Refusal.{refusal}
-use Rattle.step.specs.Conflict.{others}
+use Rattle.refusal.specs.Refusal.{refusal}
+use Rattle.conflict.specs.Conflict.{others}
 use Rattle.machine.specs.declared.Machine.{Machine}
 use Rattle.step.specs.declared.Done.{Done}
 
@@ -39,6 +39,9 @@ step m mem w e =
 pub record Fed : Type 0 where
   pub by : ℕ
   pub event : Event
+
+abbrev pub from : ℕ → Event → Fed
+from w e = record { by = w; event = e }
 
 abbrev pub after : Outcome → Fed → Outcome
 after o f = step (o .done .machine) (o .memory) (f .by) (f .event)

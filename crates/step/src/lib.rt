@@ -1,7 +1,4 @@
 // One event: refused by a number with nothing changed, or done on its own thread, on the others and on memory.
-pub mod conflict;
-pub mod refusal;
-
 ghost use mathlib.Core.Path.{_≡_};
 ghost use mathlib.Core.Bool.{true, cond};
 ghost use Prim.Native.Nat.{_<_, _≤_, _*_};
@@ -11,7 +8,7 @@ ghost use Rattle.base.specs.Limits.{line-size, lines, most-threads};
 ghost use Rattle.event.specs.Event.{operands-right};
 ghost use Rattle.machine.specs.Machine.{with-threads};
 ghost use Rattle.machine.specs.Valid.{valid};
-ghost use Rattle.step.specs.Conflict.{others};
+ghost use Rattle.conflict.specs.Conflict.{others};
 ghost use Rattle.step.specs.Step.{perform, step};
 use event::Event;
 use machine::Machine;

@@ -6,12 +6,12 @@ use native.Mathlib.Omega.{arith}
 use lib.Dec.{eqb}
 use lib.ListN.{set, length}
 use Rattle.own.specs.Events.{overflows}
-use Rattle.own.specs.declared.Did.{Did}
+use Rattle.common.specs.declared.Did.{Did}
 use Rattle.machine.specs.Machine.{thread}
-use Rattle.step.specs.Conflict.{others}
+use Rattle.conflict.specs.Conflict.{others}
 use Rattle.step.specs.Step.{perform}
 use Rattle.machine.specs.declared.Machine.{Machine}
-use Rattle.step.proofs.Strikes.{reach}
+use Rattle.step.proofs.Laws.{reach}
 use Rattle.machine.proofs.Validity.{valid-count, valid-memory, valid-places}
 use borrow.Author.Needs.{needs}
 use Rattle.step.proofs.perform.Statement.{statement}

@@ -1,6 +1,6 @@
 -- `step::reached` meets its contract.
 use borrow.Author.Tests.{eq-eqb, ne-eqb}
-use Rattle.step.specs.Conflict.{others}
+use Rattle.conflict.specs.Conflict.{others}
 use borrow.Author.Needs.{needs}
 use Rattle.step.proofs.reached.Statement.{statement}
 use Rattle.step.proofs.reached.Tie as tie

@@ -1,8 +1,8 @@
 -- `step::step` meets its contract.
 use mathlib.Core.Path.{refl, sym, ap}
 use Rattle.base.proofs.Below.{flag-true, flag-false}
-use Rattle.step.specs.Refusal.{refusal}
-use Rattle.step.proofs.Refusals.{step-refused}
+use Rattle.refusal.specs.Refusal.{refusal}
+use Rattle.step.proofs.Laws.{step-refused}
 use borrow.Author.Needs.{needs}
 use Rattle.step.proofs.step.Statement.{statement}
 use Rattle.step.proofs.step.Tie as tie

@@ -2,7 +2,8 @@
 use borrow.Author.Tests.{ne-eqb}
 use mathlib.Core.Path.{sym, ap, _∙_}
 use Rattle.machine.proofs.Validity.{valid-count}
-use Rattle.step.proofs.Refusals.{passed-thread, passed-operands, refusal-valid, step-refused, step-passed}
+use Rattle.refusal.proofs.Laws.{passed-thread, passed-operands, refusal-valid}
+use Rattle.step.proofs.Laws.{step-refused, step-passed}
 use lib.ListN.{length}
 use borrow.Author.Needs.{needs}
 use Rattle.step.proofs.step_valid.Statement.{statement}

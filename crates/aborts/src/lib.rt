@@ -1,0 +1,77 @@
+// tabort., tabortwc. and tabortdc.
+pub mod compare;
+
+ghost use mathlib.Core.Path.{_≡_};
+ghost use Prim.Native.Nat.{_<_, _^_};
+ghost use Rattle.aborts.specs.Aborts.{abort-cause, tabort, tabort-if, tabortwc, tabortdc};
+use common::Did;
+use thread::State;
+use thread::Thread;
+
+// The cause by RA: the low byte of the register as code, and bit 31.
+pub fn abort_cause(t: Thread, ra: u8) -> u64
+    requires { ⌜ ra < 32 ⌝ }
+    ensures { λ r. ⌜ r ≡ abort-cause t ra ⌝ }
+    ensures { λ r. ⌜ r < 2 ^ 32 ⌝ }
+{
+    common::gpr_or_0(t, ra) % 256 * 0x100_0000 + 1
+}
+
+// A cause recorded in T and S.
+fn abort(t: Thread, cause: u64) -> Did
+    requires { ⌜ cause < 2 ^ 32 ⌝ }
+    ensures { λ d. ⌜ d ≡ tabort (t .control .state) t cause ⌝ }
+{
+    let k = t.control;
+    let s = k.state;
+    match s {
+        State::N => common::cr0_only(t),
+        State::T => common::fails(t, cause),
+        State::S => {
+            let u = common::cr0_from_state(t);
+            common::dooms(u, cause)
+        }
+    }
+}
+
+// tabort. (RA)
+pub fn tabort(t: Thread, ra: u8) -> Did
+    requires { ⌜ ra < 32 ⌝ }
+    ensures { λ d. ⌜ d ≡ tabort (t .control .state) t (abort-cause t ra) ⌝ }
+{
+    abort(t, abort_cause(t, ra))
+}
+
+// A conditional abort, whose comparison holds or not.
+fn tabort_if(t: Thread, held: bool) -> Did
+    ensures { λ d. ⌜ d ≡ tabort-if t held ⌝ }
+{
+    if held {
+        return abort(t, 1);
+    }
+    common::cr0_only(t)
+}
+
+// tabortwc. (TO, RA, RB)
+pub fn tabortwc(t: Thread, to: u8, ra: u8, rb: u8) -> Did
+    requires { ⌜ ra < 32 ⌝ }
+    requires { ⌜ rb < 32 ⌝ }
+    ensures { λ d. ⌜ d ≡ tabortwc t to ra rb ⌝ }
+{
+    tabort_if(
+        t,
+        compare::holds_in_words(to, common::gpr(t, ra), common::gpr(t, rb)),
+    )
+}
+
+// tabortdc. (TO, RA, RB)
+pub fn tabortdc(t: Thread, to: u8, ra: u8, rb: u8) -> Did
+    requires { ⌜ ra < 32 ⌝ }
+    requires { ⌜ rb < 32 ⌝ }
+    ensures { λ d. ⌜ d ≡ tabortdc t to ra rb ⌝ }
+{
+    tabort_if(
+        t,
+        compare::holds_in_doublewords(to, common::gpr(t, ra), common::gpr(t, rb)),
+    )
+}

@@ -1,0 +1,4 @@
+pub mod Examples
+pub mod Needed
+pub mod Leaks
+pub mod Useless

@@ -1,0 +1,13 @@
+-- `refusal::off` meets its contract.
+use borrow.Author.Needs.{needs}
+use Rattle.refusal.proofs.off.Statement.{statement}
+use Rattle.refusal.proofs.off.Tie as tie
+
+returns : tie.Need-returns
+returns c = search needs
+
+returns-2 : tie.Need-returns-2
+returns-2 c = simp (c .if1 .left)
+
+pub off-spec : {M : Type 1} → statement M
+off-spec = tie.close (tie.spec returns returns-2)

@@ -1,0 +1,76 @@
+-- `refusal::refused_there` meets its contract.
+use Rattle.refusal.specs.Refusal.{refused-there}
+use mathlib.Core.Path.{sym, _∙_}
+use borrow.Author.Needs.{needs}
+use Rattle.refusal.proofs.refused_there.Statement.{statement}
+use Rattle.refusal.proofs.refused_there.Tie as tie
+
+host-in-t-requires : tie.Need-host-in-t-requires
+host-in-t-requires c κs = search needs
+
+returns : tie.Need-returns
+unfolding refused-there
+returns c = simp (sym (c .before .host-in-t .ensures) ∙ c .if1 .taken)
+
+off-requires : tie.Need-off-requires
+off-requires c κs = search needs
+
+forbidden-requires : tie.Need-forbidden-requires
+forbidden-requires c κs = search needs
+
+returns-2 : tie.Need-returns-2
+unfolding refused-there
+returns-2 c =
+    let f = c .before in
+    let h = f .before .before in
+    simp (sym (f .before .off .ensures) ∙ c .if2 .taken, sym (h .before .host-in-t .ensures) ∙ h .if1 .left)
+
+returns-3 : tie.Need-returns-3
+unfolding refused-there
+returns-3 c =
+    let f = c .before .before in
+    let h = f .before .before in
+    simp (sym (f .forbidden .ensures) ∙ c .if3 .taken, sym (f .before .off .ensures) ∙ c .before .if2 .left, sym (h .before .host-in-t .ensures) ∙ h .if1 .left)
+
+bad-thing-requires : tie.Need-bad-thing-requires
+bad-thing-requires c κs = search needs
+
+returns-4 : tie.Need-returns-4
+unfolding refused-there
+returns-4 c =
+    let b = c .before .before in
+    let f = b .before .before in
+    let h = f .before .before in
+    simp (
+      sym (c .before .bad-thing .ensures) ∙ c .if4 .taken,
+      sym (f .forbidden .ensures) ∙ b .if3 .left,
+      sym (f .before .off .ensures) ∙ b .before .if2 .left,
+      sym (h .before .host-in-t .ensures) ∙ h .if1 .left,
+    )
+
+returns-5 : tie.Need-returns-5
+unfolding refused-there
+returns-5 c =
+    let b = c .before .before in
+    let f = b .before .before in
+    let h = f .before .before in
+    simp (
+      sym (c .before .bad-thing .ensures) ∙ c .if4 .left,
+      sym (f .forbidden .ensures) ∙ b .if3 .left,
+      sym (f .before .off .ensures) ∙ b .before .if2 .left,
+      sym (h .before .host-in-t .ensures) ∙ h .if1 .left,
+    )
+
+pub refused-there-spec : {M : Type 1} → statement M
+refused-there-spec =
+    tie.close
+    (tie.spec
+    host-in-t-requires
+    returns
+    off-requires
+    forbidden-requires
+    returns-2
+    returns-3
+    bad-thing-requires
+    returns-4
+    returns-5)

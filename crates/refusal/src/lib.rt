@@ -1,0 +1,133 @@
+// Which event is refused, and by which number (document 01, "Numbers given back").
+ghost use mathlib.Core.Path.{_≡_};
+ghost use Prim.Native.Nat.{_≤_};
+ghost use Rattle.base.specs.Limits.{most-threads};
+ghost use Rattle.refusal.specs.Refusal.{in-t, host-in-t, bad-thing, off, forbidden, refused-there, refused-later};
+use event::Event;
+use machine::Machine;
+use thread::Control;
+use thread::State;
+
+fn in_t(s: State) -> bool
+    ensures { λ r. ⌜ r ≡ in-t s ⌝ }
+{
+    match s {
+        State::N => false,
+        State::T => true,
+        State::S => false,
+    }
+}
+
+// Number 5: the host's event in T.
+fn host_in_t(s: State, n: u8) -> bool
+    ensures { λ r. ⌜ r ≡ host-in-t s n ⌝ }
+{
+    if n != 17 {
+        return false;
+    }
+    in_t(s)
+}
+
+// trechkpt. wants N and FS = 1.
+fn bad_in_n(k: Control, n: u8) -> bool
+    ensures { λ r. ⌜ r ≡ bad-thing State.N k n ⌝ }
+{
+    if n == 8 {
+        return true;
+    }
+    if n == 9 {
+        return !thread::failed(k);
+    }
+    false
+}
+
+fn bad_in_t(k: Control, n: u8) -> bool
+    ensures { λ r. ⌜ r ≡ bad-thing State.T k n ⌝ }
+{
+    if n == 9 {
+        return true;
+    }
+    n == 10
+}
+
+fn bad_in_s(k: Control, n: u8) -> bool
+    ensures { λ r. ⌜ r ≡ bad-thing State.S k n ⌝ }
+{
+    if n == 2 {
+        return true;
+    }
+    bad_in_t(k, n)
+}
+
+// Number 13: Bad Thing.
+fn bad_thing(k: Control, n: u8) -> bool
+    ensures { λ r. ⌜ r ≡ bad-thing (k .state) k n ⌝ }
+{
+    let s = k.state;
+    match s {
+        State::N => bad_in_n(k, n),
+        State::T => bad_in_t(k, n),
+        State::S => bad_in_s(k, n),
+    }
+}
+
+// Number 11.
+fn off(k: Control, n: u8) -> bool
+    ensures { λ r. ⌜ r ≡ off k n ⌝ }
+{
+    if k.tm {
+        return false;
+    }
+    n <= 11
+}
+
+// Number 12.
+fn forbidden(k: Control, n: u8) -> bool
+    ensures { λ r. ⌜ r ≡ forbidden k n ⌝ }
+{
+    if k.pr {
+        if n == 8 {
+            return true;
+        }
+        return n == 9;
+    }
+    false
+}
+
+// The tests on the event's own thread, in the order 5, 11, 12, 13.
+fn refused_there(k: Control, n: u8) -> u8
+    ensures { λ r. ⌜ r ≡ refused-there k n ⌝ }
+{
+    let s = k.state;
+    if host_in_t(s, n) {
+        return 5;
+    }
+    let without = off(k, n);
+    let barred = forbidden(k, n);
+    if without {
+        return 11;
+    }
+    if barred {
+        return 12;
+    }
+    if bad_thing(k, n) {
+        return 13;
+    }
+    0
+}
+
+// The tests that a valid machine leaves: 3, 4, and those on the event's own thread.
+pub fn refused_later(m: Machine, len: usize, w: usize, e: Event) -> u8
+    requires { ⌜ m .count ≤ most-threads ⌝ }
+    ensures { λ r. ⌜ r ≡ refused-later m len w e ⌝ }
+{
+    if m.count <= w {
+        return 3;
+    }
+    if !event::operands_right(e, len) {
+        return 4;
+    }
+    let t = m.threads[w];
+    let k = t.control;
+    refused_there(k, event::kind(e))
+}
