@@ -1,4 +1,4 @@
--- What is promised of the crossing and of what a host hands in; proved in proofs/Promises.antt.
+-- What is promised of what a host hands in; proved in proofs/Promises.antt. The crossing's own promises: `crossing/specs/Promises`.
 use mathlib.Core.Path.{_≡_}
 use mathlib.Core.Bool.{true, false}
 use mathlib.Core.List.{List}
@@ -7,26 +7,13 @@ use lib.ListN.{length}
 use Rattle.base.specs.Limits.{most-threads}
 use Rattle.event.specs.declared.Event.{Event}
 use Rattle.machine.specs.Valid.{sized}
-use Rattle.machine.specs.declared.Machine.{Machine}
 use Rattle.tape.specs.Fields.{fields-of}
 use Rattle.tape.specs.declared.Fields.{Fields}
 use Rattle.tape.specs.declared.Read.the-variants.{Record}
 use Rattle.run.specs.Run.{goes-on}
-use Rattle.crossing.specs.Crossing.{right, machine-of, raw-machine}
+use Rattle.crossing.specs.Crossing.{right, machine-of}
 use Rattle.host.specs.Host.{outcome, event-read, step, result, run}
 use Rattle.crossing.specs.declared.RawMachine.{RawMachine}
-
--- a machine that crosses and comes back is the same
-abbrev pub Forth : Type 0
-Forth = (m : Machine) → length (m .threads) ≡ most-threads → machine-of (raw-machine m) ≡ m
-
--- what crosses has the bits of a machine
-abbrev pub ForthRight : Type 0
-ForthRight = (m : Machine) → right (raw-machine m) ≡ true
-
--- bits of a machine that are taken in and given out are the same
-abbrev pub Back : Type 0
-Back = (m : RawMachine) → length (m .threads) ≡ most-threads → right m ≡ true → raw-machine (machine-of m) ≡ m
 
 -- bits that are no machine are refused by 2, whatever the event and the tape, and nothing changes
 abbrev pub NoMachine : Type 0
