@@ -1,4 +1,4 @@
--- What is refused changes nothing.
+-- What is refused changes nothing; every event has fields.
 use mathlib.Core.Path.{_≡_, refl}
 use mathlib.Core.Bool.{Bool, true, false}
 use mathlib.Core.List.{List}

@@ -5,7 +5,7 @@ use mathlib.Core.List.{List}
 use lib.Dec.{eqb}
 use lib.ListN.{length}
 use Rattle.machine.specs.Valid.{sized, valid}
-use Rattle.step.specs.Step as machine
+use Rattle.step.specs.Step as events
 use Rattle.machine.specs.declared.Machine.{Machine}
 use Rattle.tape.specs.Fields.{fields, fields-of}
 use Rattle.tape.specs.Tape as tape
@@ -43,13 +43,13 @@ outcome n m mem = record { done = record { answer = n; machine = m }; memory = m
 abbrev pub first-of : ℕ → ℕ → ℕ
 first-of k n = cond (eqb k 0) n k
 
-abbrev pub crossed : machine.Outcome → RawOutcome
+abbrev pub crossed : events.Outcome → RawOutcome
 crossed o = outcome (o .done .answer) (raw-machine (o .done .machine)) (o .memory)
 
 -- the event of fields on a machine: 1 and 2 come before 8 and 9, which come before the rest
 abbrev pub met : Read → RawMachine → List ℕ → RawOutcome
 met (Refused n) m mem = outcome (first-of (number m (length mem)) n) m mem
-met (Record w e) m mem = cond (right m) (crossed (machine.step (machine-of m) mem w e)) (outcome (number m (length mem)) m mem)
+met (Record w e) m mem = cond (right m) (crossed (events.step (machine-of m) mem w e)) (outcome (number m (length mem)) m mem)
 
 -- fields are judged as a record's are
 abbrev pub event-read : Fields → Read

@@ -1,4 +1,5 @@
-// What an event does to its own thread: one function for each kind, or for a family of kinds (document 01, "Events").
+// What an event does to its own thread: one function for each kind, or for a family of kinds (document 01, "Events"). Aborts and
+// accesses stand in crates of their own.
 pub mod begins;
 pub mod plain;
 pub mod reclaims;

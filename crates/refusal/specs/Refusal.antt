@@ -1,4 +1,4 @@
--- Which event is refused, and by which number (document 01, "Numbers given back"), in the order 1, 2, 3, 4, 5, 11, 12, 13.
+-- Which event is refused, and by which number (document 01, "Numbers given back"): first 1 to 5, then 11 to 13.
 use Prim.Native.Nat.{ℕ}
 use mathlib.Core.Bool.{Bool, true, false, not, cond, _&&_, _||_}
 use lib.Dec.{eqb, leb, ltb}

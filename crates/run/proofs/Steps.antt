@@ -20,7 +20,7 @@ use Rattle.tape.specs.Tape.{record-size, read}
 use Rattle.tape.specs.declared.Read.{Read}
 use Rattle.tape.specs.declared.Read.the-variants.{Record, Refused}
 use Rattle.run.specs.Run.{Result, result, goes-on, record-at, counted, one, run-from, run}
-use Rattle.run.specs.Steps.{fed, events, RunIsSteps, StopChangesNothing}
+use Rattle.run.specs.Steps.{fed, events, all-go, RunIsSteps, StopChangesNothing, CountedWent}
 use Rattle.run.proofs.Laws.{is-counted, not-counted, run-stops, run-goes}
 use Rattle.run.proofs.Answers.{own-done}
 
@@ -39,7 +39,7 @@ stop-changes-nothing m mem w e p = go (ℕ-discrete (refusal m (length mem) w e)
         (ap (λ (x : Outcome). x .done .machine) o, ap (λ (x : Outcome). x .memory) o)
 
 -- a record that is not counted changes nothing; one that is counted is its step
-one-stops : (r : Read) (m : Machine) (mem : List ℕ) (k : ℕ) → eqb (one r m mem k .ended .count) k ≡ true → (one r m mem k .ended .machine ≡ m) × (one r m mem k .memory ≡ mem)
+pub one-stops : (r : Read) (m : Machine) (mem : List ℕ) (k : ℕ) → eqb (one r m mem k .ended .count) k ≡ true → (one r m mem k .ended .machine ≡ m) × (one r m mem k .memory ≡ mem)
 unfolding one counted
 one-stops (Refused n) m mem k p = (refl, refl)
 one-stops (Record w e) m mem k p = go (goes-on (step m mem w e .done .answer)) refl
@@ -53,36 +53,43 @@ pub record Counts (r : Read) (m : Machine) (mem : List ℕ) (k : ℕ) : Type 0 w
   pub w : ℕ
   pub e : Event
   pub is : r ≡ Record w e
+  pub went : goes-on (step m mem w e .done .answer) ≡ true
   pub whole : one r m mem k ≡ result (step m mem w e .done .answer) (k + 1) (step m mem w e .done .machine) (step m mem w e .memory)
 
-one-counts : (r : Read) (m : Machine) (mem : List ℕ) (k : ℕ) → eqb (one r m mem k .ended .count) k ≡ false → Counts r m mem k
+pub one-counts : (r : Read) (m : Machine) (mem : List ℕ) (k : ℕ) → eqb (one r m mem k .ended .count) k ≡ false → Counts r m mem k
 unfolding one
 one-counts (Refused n) m mem k p = absurd (true≢false (sym (eq-eqb k k refl) ∙ p))
 one-counts (Record v f) m mem k p = go (goes-on (step m mem v f .done .answer)) refl
   where
     go : (b : Bool) → goes-on (step m mem v f .done .answer) ≡ b → Counts (Record v f) m mem k
-    go true q = record { w = v; e = f; is = refl; whole = is-counted (step m mem v f) k q }
+    go true q = record { w = v; e = f; is = refl; went = q; whole = is-counted (step m mem v f) k q }
     go false q = absurd (true≢false (sym (eq-eqb k k refl) ∙ sym (ap (λ (c : Result). eqb (c .ended .count) k) (not-counted (step m mem v f) k q)) ∙ p))
 
--- from record k on: c records more are counted, and what is left is what they give
+-- from record k on: c records more are counted, each is an event that goes on, and what is left is what they give
 pub record After (tape : List ℕ) (k : ℕ) (o : Outcome) (r : Result) : Type 0 where
   pub c : ℕ
   pub count : r .ended .count ≡ k + c
+  pub each : length (events tape k c) ≡ c
+  pub went : all-go (events tape k c) o ≡ true
   pub machine : r .ended .machine ≡ feed (events tape k c) o .done .machine
   pub memory : r .memory ≡ feed (events tape k c) o .memory
 
 nothing : (tape : List ℕ) (k : ℕ) (o : Outcome) (r : Result) → r .ended .count ≡ k → r .ended .machine ≡ o .done .machine → r .memory ≡ o .memory → After tape k o r
-unfolding events feed
-nothing tape k o r p q s = record { c = 0; count = p ∙ (let e : k ≡ k + 0 = omega arith in e); machine = q; memory = s }
+unfolding events feed all-go
+nothing tape k o r p q s =
+    record { c = 0; count = p ∙ (let e : k ≡ k + 0 = omega arith in e); each = refl; went = refl; machine = q; memory = s }
 
 another : (tape : List ℕ) (k : ℕ) (o : Outcome) (r : Result) (w : ℕ) (e : Event) → read (record-at tape k) ≡ Record w e
+    → goes-on (step (o .done .machine) (o .memory) w e .done .answer) ≡ true
     → After tape (k + 1) (step (o .done .machine) (o .memory) w e) r → After tape k o r
-unfolding events feed
-another tape k o r w e p a =
+unfolding events feed all-go
+another tape k o r w e p g a =
     let f : fed (read (record-at tape k)) ≡ from w e ∷ [] = ap fed p in
     record {
       c = suc (a .c);
       count = a .count ∙ (let z : k + 1 + a .c ≡ k + suc (a .c) = omega arith in z);
+      each = ap (λ (l : List Fed). length (l ++ events tape (k + 1) (a .c))) f ∙ ap suc (a .each);
+      went = ap (λ (l : List Fed). all-go (l ++ events tape (k + 1) (a .c)) o) f ∙ simp (g, a .went);
       machine = a .machine ∙ sym (ap (λ (l : List Fed). feed (l ++ events tape (k + 1) (a .c)) o .done .machine) f);
       memory = a .memory ∙ sym (ap (λ (l : List Fed). feed (l ++ events tape (k + 1) (a .c)) o .memory) f);
     }
@@ -108,7 +115,7 @@ steps (suc n) tape k o = go (eqb (one (read (record-at tape k)) (o .done .machin
         let i : suc n - 1 ≡ n = omega arith in
         let same : run-from (suc n) tape k (o .done .machine) (o .memory) ≡ run-from n tape (k + 1) (p .done .machine) (p .memory) =
         w ∙ (λ j. run-from (i j) tape (k + 1) (c .whole j .ended .machine) (c .whole j .memory)) in
-        subst (λ (r : Result). After tape k o r) (sym same) (another tape k o _ (c .w) (c .e) (c .is) (ih p))
+        subst (λ (r : Result). After tape k o r) (sym same) (another tape k o _ (c .w) (c .e) (c .is) (c .went) (ih p))
 
 -- a run's tests leave everything as it was, and then the records are taken
 run-after : (m : Machine) (mem tape : List ℕ) → After tape 0 (outcome 0 m mem) (run m mem tape)
@@ -126,4 +133,12 @@ run-is-steps m mem tape =
     let e : a .c ≡ run m mem tape .ended .count = omega (arith, a .count) in (
       a .machine ∙ ap (λ (n : ℕ). feed (events tape 0 n) (outcome 0 m mem) .done .machine) e,
       a .memory ∙ ap (λ (n : ℕ). feed (events tape 0 n) (outcome 0 m mem) .memory) e,
+    )
+
+pub counted-went : CountedWent
+counted-went m mem tape =
+    let a = run-after m mem tape in
+    let e : a .c ≡ run m mem tape .ended .count = omega (arith, a .count) in (
+      ap (λ (n : ℕ). length (events tape 0 n)) (sym e) ∙ a .each ∙ e,
+      ap (λ (n : ℕ). all-go (events tape 0 n) (outcome 0 m mem)) (sym e) ∙ a .went,
     )

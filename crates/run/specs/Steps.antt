@@ -1,17 +1,19 @@
--- A run is its steps: what it leaves is what the public step gives, event by event. Proved in proofs/Steps.antt.
+-- A run is its steps: what it leaves is what the public step gives, event by event; and what it counts. Proved in proofs/Steps.antt and proofs/Counts.antt.
 use mathlib.Core.Path.{_≡_}
-use mathlib.Core.Bool.{true, false}
+use mathlib.Core.Bool.{Bool, true, false, _&&_}
+use mathlib.Core.Logic.{_⊎_}
 use mathlib.Core.List.{List, [], _∷_, _++_}
-use Prim.Native.Nat.{ℕ, zero, suc, _+_}
+use Prim.Native.Nat.{ℕ, zero, suc, _+_, _%_, _/_, _<_}
+use lib.Dec.{eqb}
 use lib.ListN.{length}
 use Rattle.machine.specs.Valid.{valid}
-use Rattle.step.specs.Step.{outcome, step, Fed, from, feed}
+use Rattle.step.specs.Step.{Outcome, outcome, step, Fed, from, after, feed}
 use Rattle.machine.specs.declared.Machine.{Machine}
 use Rattle.event.specs.declared.Event.{Event}
-use Rattle.tape.specs.Tape.{read}
+use Rattle.tape.specs.Tape.{record-size, read}
 use Rattle.tape.specs.declared.Read.{Read}
 use Rattle.tape.specs.declared.Read.the-variants.{Record, Refused}
-use Rattle.run.specs.Run.{goes-on, record-at, run}
+use Rattle.run.specs.Run.{Result, goes-on, record-at, run}
 
 -- the event of a record, if it is one
 abbrev pub fed : Read → List Fed
@@ -35,3 +37,32 @@ abbrev pub StopChangesNothing : Type 0
 StopChangesNothing =
     (m : Machine) (mem : List ℕ) (w : ℕ) (e : Event) → goes-on (step m mem w e .done .answer) ≡ false
     → (step m mem w e .done .machine ≡ m) × (step m mem w e .memory ≡ mem)
+
+-- each event of a list goes on
+unfoldable pub all-go : List Fed → Outcome → Bool
+all-go [] o = true
+all-go (f ∷ fs) o = goes-on (after o f .done .answer) && all-go fs (after o f)
+
+-- each record that a run counts is an event, and went on
+abbrev pub CountedWent : Type 0
+CountedWent =
+    (m : Machine) (mem tape : List ℕ)
+    → (length (events tape 0 (run m mem tape .ended .count)) ≡ run m mem tape .ended .count)
+    × (all-go (events tape 0 (run m mem tape .ended .count)) (outcome 0 m mem) ≡ true)
+
+-- a record that ends a run with an answer: the reader refuses it by that number, or the step does
+abbrev pub Stops : Read → Machine → List ℕ → ℕ → Type 0
+Stops (Record w e) m mem n = (step m mem w e .done .answer ≡ n) × (goes-on n ≡ false)
+Stops (Refused k) m mem n = k ≡ n
+
+-- the end of a run over n records: all are counted and the answer is 0, or the record behind those counted ends it
+abbrev pub EndsAt : ℕ → List ℕ → Result → Type 0
+EndsAt n tape r =
+    ((r .ended .count ≡ n) × (r .ended .answer ≡ 0))
+    ⊎ ((r .ended .count < n) × Stops (read (record-at tape (r .ended .count))) (r .ended .machine) (r .memory) (r .ended .answer))
+
+-- so a run stops at the first record that is refused, and at no other
+abbrev pub EndsFirst : Type 0
+EndsFirst =
+    (m : Machine) (mem tape : List ℕ) → valid m (length mem) ≡ true → eqb (length tape % record-size) 0 ≡ true
+    → EndsAt (length tape / record-size) tape (run m mem tape)

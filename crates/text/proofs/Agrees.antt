@@ -14,7 +14,7 @@ use Rattle.machine.specs.declared.Machine.{Machine}
 use Rattle.tape.specs.Tape.{record-size, read}
 use Rattle.run.specs.Run.{Result, result, record-at, one, run-from, run}
 use Rattle.text.specs.Text.{longest, end-line, ragged, answers, lines, text}
-use Rattle.text.specs.Agrees.{Answered, Agrees, Counts, Allowed, OneText}
+use Rattle.text.specs.Agrees.{Answered, Counts, AllAgree, AllCount, Allowed, OneText}
 use Rattle.text.proofs.Laws.{fresh-sized, fresh-valid}
 
 -- with k done before, the run's count is k and those done since
@@ -49,7 +49,7 @@ run-ragged : (input : List ℕ) → eqb (length input % record-size) 0 ≡ false
 unfolding run
 run-ragged input p = simp (fresh-sized, fresh-valid, p)
 
-pub agrees : (input : List ℕ) → eqb (length input % record-size) 0 ≡ true → Agrees input
+pub agrees : AllAgree
 agrees input p =
     let given = answers (length input / record-size) input 0 fresh fresh-memory in
     let r = run-from (length input / record-size) input 0 fresh fresh-memory in
@@ -63,7 +63,7 @@ unfolding text
 counted true input p q = (lines 0 (answers (length input / record-size) input 0 fresh fresh-memory), simp (p, q))
 counted false input p q = (ragged, simp (p, q) (ap (λ (r : Result). ragged ++ end-line (r .ended .count)) (sym (run-ragged input p))))
 
-pub counts : (input : List ℕ) → ltb longest (length input) ≡ false → Counts input
+pub counts : AllCount
 counts input q = counted (eqb (length input % record-size) 0) input refl q
 
 -- the answer is the text's length, and the buffer is the text with what was behind it

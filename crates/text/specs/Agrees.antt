@@ -1,14 +1,16 @@
 -- How the text and the run agree: what the theorems of proofs/Agrees.antt say.
 use mathlib.Core.Path.{_≡_}
+use mathlib.Core.Bool.{true, false}
 use mathlib.Core.Logic.{_⊎_}
 use mathlib.Core.List.{List, _++_}
-use Prim.Native.Nat.{ℕ, _+_, _/_, _≤_}
+use Prim.Native.Nat.{ℕ, _+_, _/_, _%_, _≤_}
+use lib.Dec.{eqb, ltb}
 use lib.ListN.{length, getD, take, drop}
 use Rattle.machine.specs.Machine.{fresh, fresh-memory}
 use Rattle.tape.specs.Tape.{record-size}
 use Rattle.run.specs.Run.{run}
 use Rattle.run.specs.declared.Ended.{Ended}
-use Rattle.text.specs.Text.{end-line, answers, text}
+use Rattle.text.specs.Text.{longest, end-line, answers, text}
 
 -- a run on the fresh machine
 abbrev pub fresh-run : List ℕ → Ended
@@ -24,6 +26,13 @@ Agrees input = Answered (fresh-run input .answer) (fresh-run input .count) (answ
 -- the text's last line has the run's count
 abbrev pub Counts : List ℕ → Type 0
 Counts input = (before : List ℕ) × (text input ≡ before ++ end-line (fresh-run input .count))
+
+-- of every input that is not ragged, and of every one that is not too long
+abbrev pub AllAgree : Type 0
+AllAgree = (input : List ℕ) → eqb (length input % record-size) 0 ≡ true → Agrees input
+
+abbrev pub AllCount : Type 0
+AllCount = (input : List ℕ) → ltb longest (length input) ≡ false → Counts input
 
 -- what the text's contract allows of its answer r and of the buffer, old before and xs after
 abbrev pub Allowed : List ℕ → List ℕ → ℕ → List ℕ → Type 0

@@ -13,7 +13,7 @@ pub const MAX_FOOTPRINT: u32 = 32;
 /// The deepest nesting.
 pub const MAX_LEVEL: u64 = 15;
 
-/// Fields of TEXASR ("TEXASR, with bit 0 the highest of 64").
+/// Fields of TEXASR; bit 0 is the top one.
 pub mod texasr {
     /// Bit `n` counted from the highest.
     const fn bit(n: u32) -> u64 {

@@ -72,73 +72,96 @@ pub fn event(rng: &mut Rng, m: &Machine, len: usize) -> (u8, Event) {
     (thread, event_of(rng, m, len, thread, kind))
 }
 
+/// The operands that are no registers.
+struct Fields {
+    to: u8,
+    bf: u8,
+    spr: u8,
+}
+
+impl Fields {
+    /// Mostly all in range, and now and then none of them surely so.
+    fn draw(rng: &mut Rng) -> Fields {
+        let any = rng.byte();
+        if rng.one_in(48) {
+            Fields {
+                to: rng.pick([32, 33, 64, 255, any]),
+                bf: rng.pick([8, 9, 255, any]),
+                spr: rng.pick([0, 1, 127, 132, 255, any]),
+            }
+        } else {
+            Fields {
+                to: rng.pick([16, 8, 4, 2, 1, 0, 31, any & 31, any & 31]),
+                bf: any & 7,
+                spr: 128 + (any & 3),
+            }
+        }
+    }
+}
+
 /// An event of this kind, 1 to 17, for this machine; other numbers give 17.
 pub fn event_of(rng: &mut Rng, m: &Machine, len: usize, thread: u8, kind: u8) -> Event {
-    let any = rng.byte();
-    let unlikely = rng.one_in(48);
-    let to = if unlikely {
-        rng.pick([32, 33, 64, 255, any])
-    } else {
-        rng.pick([16, 8, 4, 2, 1, 0, 31, any & 31, any & 31])
-    };
-    let bf = if unlikely {
-        rng.pick([8, 9, 255, any])
-    } else {
-        any & 7
-    };
-    let spr = if unlikely {
-        rng.pick([0, 1, 127, 132, 255, any])
-    } else {
-        128 + (any & 3)
-    };
+    // Drawn whatever the kind: coverage tables rest on the order of the draws.
+    let Fields { to, bf, spr } = Fields::draw(rng);
     match kind {
         1 => Event::Tbegin { r: rng.flag() },
         2 => Event::Tend { a: rng.flag() },
         3 => Event::Tabort { ra: register(rng) },
-        4 => Event::Tabortwc {
-            to,
-            ra: register(rng),
-            rb: register(rng),
-        },
-        5 => Event::Tabortdc {
-            to,
-            ra: register(rng),
-            rb: register(rng),
-        },
+        4 | 5 => conditional_abort(rng, to, kind == 5),
         6 => Event::Tsr { l: rng.flag() },
         7 => Event::Tcheck { bf },
         8 => Event::Treclaim { ra: register(rng) },
         9 => Event::Trechkpt,
-        10 => Event::Mtspr {
-            spr,
-            ra: register(rng),
-        },
-        11 => Event::Mfspr {
-            rt: register(rng),
-            spr,
-        },
-        12 => Event::Ld {
-            rt: register(rng),
-            index: index(rng, m, len, thread),
-        },
-        13 => Event::Std {
-            ra: register(rng),
-            index: index(rng, m, len, thread),
-        },
-        14 => {
-            let si = rng.bits() as u16;
-            Event::Addi {
-                rt: register(rng),
-                ra: register(rng),
-                si: rng.pick([0, 1, 0x7FFF, 0x8000, 0xFFFF, si]),
-            }
-        }
+        10 | 11 => special_register(rng, spr, kind == 11),
+        12 | 13 => access(rng, m, len, thread, kind == 13),
+        14 => addi(rng),
         15 => Event::Disallowed,
         16 => Event::Interrupt,
         _ => Event::Host {
             pr: rng.flag(),
             tm: rng.flag() || rng.flag(),
         },
+    }
+}
+
+/// tabortwc. or tabortdc.
+fn conditional_abort(rng: &mut Rng, to: u8, doublewords: bool) -> Event {
+    let ra = register(rng);
+    let rb = register(rng);
+    if doublewords {
+        Event::Tabortdc { to, ra, rb }
+    } else {
+        Event::Tabortwc { to, ra, rb }
+    }
+}
+
+/// mtspr or mfspr.
+fn special_register(rng: &mut Rng, spr: u8, from: bool) -> Event {
+    let r = register(rng);
+    if from {
+        Event::Mfspr { rt: r, spr }
+    } else {
+        Event::Mtspr { spr, ra: r }
+    }
+}
+
+/// ld or std.
+fn access(rng: &mut Rng, m: &Machine, len: usize, thread: u8, store: bool) -> Event {
+    let r = register(rng);
+    let index = index(rng, m, len, thread);
+    if store {
+        Event::Std { ra: r, index }
+    } else {
+        Event::Ld { rt: r, index }
+    }
+}
+
+fn addi(rng: &mut Rng) -> Event {
+    let si = rng.bits() as u16;
+    Event::Addi {
+        rt: register(rng),
+        ra: register(rng),
+        si: rng.pick([0, 1, 0x7FFF, 0x8000, 0xFFFF, si]),
     }
 }
 

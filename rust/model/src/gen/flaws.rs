@@ -2,7 +2,7 @@
 
 use super::machines::{line, valid_machine};
 use super::rng::{value, Rng};
-use crate::machine::{texasr, Entry, Machine, State, LINE, THREADS};
+use crate::machine::{texasr, Entry, Machine, State, Thread, LINE, THREADS};
 
 /// One way in which a machine is not valid, or in which its shape is wrong.
 #[derive(Clone, Copy, PartialEq, Eq, Debug)]
@@ -110,46 +110,55 @@ pub fn broken_machine(rng: &mut Rng) -> (Machine, Vec<u64>) {
 pub fn shaken_machine(rng: &mut Rng) -> (Machine, Vec<u64>) {
     let (mut m, mem) = valid_machine(rng);
     for _ in 0..1 + rng.below(3) {
-        let lines = mem.len() / LINE;
-        let l = line(rng, lines + 1) & 255;
-        let i = rng.below(mem.len() + 2) as u32;
-        let word = value(rng);
-        let tidy = rng.flag();
-        let t = &mut m.threads[rng.below(THREADS)];
-        match rng.below(16) {
-            0 => t.live.gpr[rng.below(32)] = word,
-            1 => t.live.cr[rng.below(7)] = rng.byte() & 31,
-            2 => t.checkpoint.cr[rng.below(7)] = rng.byte() & 31,
-            3 => t.cr0 = rng.byte() & 31,
-            4 => t.nia = if tidy { word & !3 } else { word },
-            5 => t.tfhar = if tidy { word & !3 } else { word },
-            6 => t.pr = !t.pr,
-            7 => t.state = rng.pick([State::N, State::T, State::S]),
-            8 => t.doomed = !t.doomed,
-            9 => t.texasr = word,
-            10 => t.texasr = t.texasr & !texasr::TL | rng.below(18) as u64,
-            11 => t.texasr ^= texasr::FS,
-            12 => t.reads.insert(l),
-            13 => t.writes.insert(l),
-            14 => {
-                if let Some(e) = t.log.get_mut(t.count) {
-                    *e = Entry {
-                        index: i,
-                        value: word,
-                    };
-                    t.count += 1;
-                    if tidy {
-                        t.writes.insert(i as usize / LINE);
-                    }
-                }
-            }
-            _ => {
-                t.count = t.count.saturating_sub(1);
-                if let Some(e) = t.log.get_mut(t.count).filter(|_| tidy) {
-                    *e = Entry::ZERO;
-                }
-            }
-        }
+        shake(rng, &mut m, mem.len());
     }
     (m, mem)
+}
+
+/// Overwrites a field of some thread record.
+fn shake(rng: &mut Rng, m: &mut Machine, len: usize) {
+    let l = line(rng, len / LINE + 1) & 255;
+    let index = rng.below(len + 2) as u32;
+    let word = value(rng);
+    let tidy = rng.flag();
+    let address = if tidy { word & !3 } else { word };
+    let t = &mut m.threads[rng.below(THREADS)];
+    match rng.below(16) {
+        0 => t.live.gpr[rng.below(32)] = word,
+        1 => t.live.cr[rng.below(7)] = rng.byte() & 31,
+        2 => t.checkpoint.cr[rng.below(7)] = rng.byte() & 31,
+        3 => t.cr0 = rng.byte() & 31,
+        4 => t.nia = address,
+        5 => t.tfhar = address,
+        6 => t.pr = !t.pr,
+        7 => t.state = rng.pick([State::N, State::T, State::S]),
+        8 => t.doomed = !t.doomed,
+        9 => t.texasr = word,
+        10 => t.texasr = t.texasr & !texasr::TL | rng.below(18) as u64,
+        11 => t.texasr ^= texasr::FS,
+        12 => t.reads.insert(l),
+        13 => t.writes.insert(l),
+        14 => add_place(t, Entry { index, value: word }, tidy),
+        _ => drop_place(t, tidy),
+    }
+}
+
+/// Adds a place to the log, if it is not full; a tidy one has its line in the
+/// write set.
+fn add_place(t: &mut Thread, entry: Entry, tidy: bool) {
+    if let Some(place) = t.log.get_mut(t.count) {
+        *place = entry;
+        t.count += 1;
+        if tidy {
+            t.writes.insert(entry.index as usize / LINE);
+        }
+    }
+}
+
+/// Takes the last place from the log; a tidy one is left zero.
+fn drop_place(t: &mut Thread, tidy: bool) {
+    t.count = t.count.saturating_sub(1);
+    if let Some(place) = t.log.get_mut(t.count).filter(|_| tidy) {
+        *place = Entry::ZERO;
+    }
 }

@@ -106,6 +106,53 @@ fn fill_log(rng: &mut Rng, t: &mut Thread, lines: usize) {
     }
 }
 
+/// A thread in N with TEXASR zero.
+fn thread_in_n(rng: &mut Rng) -> Thread {
+    Thread {
+        live: registers(rng),
+        cr0: rng.byte() & 15,
+        checkpoint: registers(rng),
+        nia: address(rng),
+        pr: rng.flag(),
+        tm: !rng.one_in(8),
+        tfhar: address(rng),
+        tfiar: value(rng),
+        ..Thread::ZERO
+    }
+}
+
+/// Takes a thread in N to any of N, T, S live and S doomed, with a TEXASR,
+/// sets and a log that are valid there. `held` and `written` are as above.
+fn put_state(rng: &mut Rng, t: &mut Thread, len: usize, held: &LineSet, written: &LineSet) {
+    let bits = value(rng);
+    let any = rng.pick([0, 0, bits]);
+    match rng.below(4) {
+        0 => {
+            let failed = rng.flag();
+            t.texasr = if failed { any | texasr::FS } else { any };
+        }
+        1 => {
+            t.state = State::S;
+            t.doomed = true;
+            t.texasr = any | texasr::FS;
+        }
+        class => {
+            t.state = if class == 2 { State::T } else { State::S };
+            t.texasr = live_texasr(rng, any);
+            fill_sets(rng, t, len, held, written);
+            fill_log(rng, t, len / LINE);
+        }
+    }
+}
+
+/// The TEXASR of a live transaction, its other bits from `any`.
+fn live_texasr(rng: &mut Rng, any: u64) -> u64 {
+    let some = 1 + rng.below(15) as u64;
+    let level = rng.pick([1, 1, 1, 2, 14, 15, some]);
+    let rot = rng.pick([0, 0, texasr::ROT]);
+    any & !(texasr::FS | texasr::ROT | texasr::TL) | rot | level
+}
+
 /// A valid machine for a memory of this length, which is one that a machine
 /// may have.
 pub fn machine(rng: &mut Rng, len: usize) -> Machine {
@@ -120,44 +167,10 @@ pub fn machine(rng: &mut Rng, len: usize) -> Machine {
     let first = rng.below(count);
     for turn in 0..count {
         let t = &mut m.threads[(first + turn) % count];
-        *t = Thread {
-            live: registers(rng),
-            cr0: rng.byte() & 15,
-            checkpoint: registers(rng),
-            nia: address(rng),
-            pr: rng.flag(),
-            tm: !rng.one_in(8),
-            tfhar: address(rng),
-            tfiar: value(rng),
-            ..Thread::ZERO
-        };
-        let bits = value(rng);
-        let upper = rng.pick([0, 0, bits]);
-        match rng.below(4) {
-            0 => {
-                t.texasr = if rng.flag() {
-                    upper | texasr::FS
-                } else {
-                    upper
-                };
-            }
-            1 => {
-                t.state = State::S;
-                t.doomed = true;
-                t.texasr = upper | texasr::FS;
-            }
-            class => {
-                t.state = if class == 2 { State::T } else { State::S };
-                let any = 1 + rng.below(15) as u64;
-                let level = rng.pick([1, 1, 1, 2, 14, 15, any]);
-                let rot = rng.pick([0, 0, texasr::ROT]);
-                t.texasr = upper & !(texasr::FS | texasr::ROT | texasr::TL) | rot | level;
-                fill_sets(rng, t, len, &held, &written);
-                fill_log(rng, t, len / LINE);
-                held = held.union(&t.reads).union(&t.writes);
-                written = written.union(&t.writes);
-            }
-        }
+        *t = thread_in_n(rng);
+        put_state(rng, t, len, &held, &written);
+        held = held.union(&t.reads).union(&t.writes);
+        written = written.union(&t.writes);
     }
     m
 }

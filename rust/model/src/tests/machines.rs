@@ -9,76 +9,105 @@ use crate::machine::{texasr, Entry, LineSet};
 /// The definition of a valid machine clause by clause, without haste: a list
 /// of the clauses that do not hold.
 fn faults(m: &Machine, len: usize) -> Vec<&'static str> {
-    let mut faults = Vec::new();
-    let mut clause = |holds: bool, name: &'static str| {
-        if !holds && !faults.contains(&name) {
-            faults.push(name);
-        }
-    };
-    clause(
+    let mut faults = Faults::default();
+    faults.clause(
         (16..=4096).contains(&len) && len.is_multiple_of(16),
         "memory length",
     );
-    clause((1..=4).contains(&m.count), "thread count");
-    let zero = Thread::ZERO;
+    faults.clause((1..=4).contains(&m.count), "thread count");
     for (n, t) in m.threads.iter().enumerate() {
         if n >= m.count {
-            clause(*t == zero, "records past the count");
+            faults.clause(*t == Thread::ZERO, "records past the count");
             continue;
         }
-        clause(t.count <= 64, "log count");
-        let used: Vec<Entry> = t.log.iter().copied().take(t.count).collect();
-        let unused: Vec<Entry> = t.log.iter().copied().skip(t.count).collect();
-        clause(
-            unused.iter().all(|e| e.index == 0 && e.value == 0),
+        faults.of_fields(t);
+        faults.of_state(t);
+        faults.of_log_and_lines(t, len);
+        faults.of_other_threads(m, n);
+    }
+    faults.0
+}
+
+/// The clauses that do not hold, each once.
+#[derive(Default)]
+struct Faults(Vec<&'static str>);
+
+impl Faults {
+    fn clause(&mut self, holds: bool, name: &'static str) {
+        if !holds && !self.0.contains(&name) {
+            self.0.push(name);
+        }
+    }
+
+    /// Fields that are judged alone.
+    fn of_fields(&mut self, t: &Thread) {
+        self.clause(t.count <= 64, "log count");
+        let mut unused = t.log.iter().skip(t.count);
+        self.clause(
+            unused.all(|e| e.index == 0 && e.value == 0),
             "unused places",
         );
-        clause(t.nia & 3 == 0, "nia");
-        clause(t.tfhar & 3 == 0, "tfhar");
-        clause(t.cr0 < 16, "cr0");
-        clause(t.live.cr.iter().all(|&c| c < 16), "live cr");
-        clause(t.checkpoint.cr.iter().all(|&c| c < 16), "checkpoint cr");
-        let reads: BTreeSet<usize> = (0..256).filter(|&l| t.reads.contains(l)).collect();
-        let writes: BTreeSet<usize> = (0..256).filter(|&l| t.writes.contains(l)).collect();
+        self.clause(t.nia & 3 == 0, "nia");
+        self.clause(t.tfhar & 3 == 0, "tfhar");
+        self.clause(t.cr0 < 16, "cr0");
+        self.clause(t.live.cr.iter().all(|&c| c < 16), "live cr");
+        self.clause(t.checkpoint.cr.iter().all(|&c| c < 16), "checkpoint cr");
+    }
+
+    /// What each state asks.
+    fn of_state(&mut self, t: &Thread) {
+        let (reads, writes) = (lines(&t.reads), lines(&t.writes));
         let empty = reads.is_empty() && writes.is_empty() && t.count == 0;
         let fs = t.texasr >> 27 & 1 == 1;
         let tl = t.texasr & 0xFFF;
         let live = t.state == State::T || t.state == State::S && !t.doomed;
         let doomed_s = t.state == State::S && t.doomed;
         if t.state == State::N || doomed_s {
-            clause(empty, "empty sets and log");
+            self.clause(empty, "empty sets and log");
         }
         if t.state == State::N || t.state == State::T {
-            clause(!t.doomed, "doomed");
+            self.clause(!t.doomed, "doomed");
         }
         if live {
-            clause(!fs, "FS in a live transaction");
-            clause((1..=15).contains(&tl), "level");
-            clause(reads.union(&writes).count() <= 32, "footprint");
+            self.clause(!fs, "FS in a live transaction");
+            self.clause((1..=15).contains(&tl), "level");
+            self.clause(reads.union(&writes).count() <= 32, "footprint");
         }
         if doomed_s {
-            clause(fs, "FS in doomed S");
+            self.clause(fs, "FS in doomed S");
         }
-        clause(
+    }
+
+    fn of_log_and_lines(&mut self, t: &Thread, len: usize) {
+        let used: Vec<Entry> = t.log.iter().copied().take(t.count).collect();
+        let (reads, writes) = (lines(&t.reads), lines(&t.writes));
+        self.clause(
             used.iter().all(|e| (e.index as usize) < len),
             "indices in memory",
         );
-        clause(
+        self.clause(
             reads.iter().chain(&writes).all(|l| l * 16 < len),
             "lines in memory",
         );
         let distinct: BTreeMap<u32, u64> = used.iter().map(|e| (e.index, e.value)).collect();
-        clause(distinct.len() == used.len(), "distinct indices");
+        self.clause(distinct.len() == used.len(), "distinct indices");
         let logged: BTreeSet<usize> = used.iter().map(|e| e.index as usize / 16).collect();
-        clause(logged == writes, "write set is the log's lines");
+        self.clause(logged == writes, "write set is the log's lines");
+    }
+
+    fn of_other_threads(&mut self, m: &Machine, n: usize) {
+        let t = &m.threads[n];
         for (o, other) in m.threads.iter().enumerate() {
             let apart = (0..256).all(|l| {
                 !t.writes.contains(l) || !other.writes.contains(l) && !other.reads.contains(l)
             });
-            clause(o == n || o >= m.count || apart, "lines of another thread");
+            self.clause(o == n || o >= m.count || apart, "lines of another thread");
         }
     }
-    faults
+}
+
+fn lines(set: &LineSet) -> BTreeSet<usize> {
+    (0..256).filter(|&l| set.contains(l)).collect()
 }
 
 #[test]
@@ -158,13 +187,17 @@ fn shaken_machines_are_judged_by_the_clauses() {
 }
 
 #[test]
-fn edges() {
-    // T with TM = 0 is valid, though no event leads there.
+fn t_with_the_facility_off_is_valid() {
+    // Though no event leads there.
     let mut b = Bench::fresh();
     b.done(TBEGIN);
     b.m.threads[0].tm = false;
     assert!(valid(&b.m, 4096));
-    // In N nothing is asked of TEXASR, TFIAR and the checkpoint's registers.
+}
+
+#[test]
+fn n_asks_little() {
+    // Nothing of TEXASR, TFIAR and the checkpoint's registers.
     let mut m = Machine::fresh();
     m.threads[1].texasr = u64::MAX;
     m.threads[1].tfiar = u64::MAX;
@@ -173,7 +206,11 @@ fn edges() {
     assert!(valid(&m, 4096));
     m.threads[1].checkpoint.cr[6] = 16;
     assert!(!valid(&m, 4096));
-    // PR and TM of a record past the count are zero too.
+}
+
+#[test]
+fn records_past_the_count_are_zero() {
+    // PR and TM too.
     let mut m = Machine::fresh();
     m.count = 3;
     assert!(!valid(&m, 4096));
@@ -181,19 +218,29 @@ fn edges() {
     assert!(valid(&m, 4096));
     m.threads[3].tm = true;
     assert!(!valid(&m, 4096));
-    // A footprint of 32 lines, some in both sets.
+}
+
+#[test]
+fn a_footprint_counts_a_line_once() {
+    // 32 lines, all in both sets.
     let mut b = Bench::fresh();
     b.done(TBEGIN);
     for line in 0..32 {
         b.done(ld(0, line * 16)).done(std(0, line * 16));
     }
     assert_eq!(b.thread(0).footprint(), 32);
-    // Two threads may read the same line.
+}
+
+#[test]
+fn two_threads_may_read_a_line() {
     let mut b = Bench::fresh();
     b.done(TBEGIN).done_by(1, TBEGIN);
     b.done(ld(1, 0)).done_by(1, ld(1, 0));
     assert!(b.thread(0).reads.contains(0) && b.thread(1).reads.contains(0));
-    // TL counts by its twelve bits.
+}
+
+#[test]
+fn tl_counts_by_its_twelve_bits() {
     for (level, fits) in [
         (0, false),
         (1, true),

@@ -138,14 +138,14 @@ const TABORT: Event = Event::Tabort { ra: 0 };
 const TSUSPEND: Event = Event::Tsr { l: false };
 const TRESUME: Event = Event::Tsr { l: true };
 
-fn ld(rt: u8, index: u32) -> Event {
+const fn ld(rt: u8, index: u32) -> Event {
     Event::Ld { rt, index }
 }
 
-fn std(ra: u8, index: u32) -> Event {
+const fn std(ra: u8, index: u32) -> Event {
     Event::Std { ra, index }
 }
 
-fn addi(rt: u8, ra: u8, si: u16) -> Event {
+const fn addi(rt: u8, ra: u8, si: u16) -> Event {
     Event::Addi { rt, ra, si }
 }

@@ -25,56 +25,68 @@ fn bytes_of_a_std() {
     assert_eq!(read(&bytes), Ok((0, std(3, 17))));
 }
 
+/// Operands of the events below, each told from the others by its value.
+const A: u8 = 0xA1;
+const B: u8 = 0xB2;
+const C: u8 = 0xC3;
+
+/// Events, each with bytes 1 and 3 to 6 of its record: the kind, the three
+/// operands and the flags. The other bytes are the same for all.
+type Bytes = (Event, [u8; 5]);
+
+const KINDS_1_TO_9: [Bytes; 9] = [
+    (Event::Tbegin { r: true }, [1, 0, 0, 0, 1]),
+    (Event::Tend { a: true }, [2, 0, 0, 0, 1]),
+    (Event::Tabort { ra: A }, [3, 0, A, 0, 0]),
+    (
+        Event::Tabortwc {
+            to: C,
+            ra: A,
+            rb: B,
+        },
+        [4, C, A, B, 0],
+    ),
+    (
+        Event::Tabortdc {
+            to: C,
+            ra: A,
+            rb: B,
+        },
+        [5, C, A, B, 0],
+    ),
+    (Event::Tsr { l: true }, [6, 0, 0, 0, 1]),
+    (Event::Tcheck { bf: C }, [7, C, 0, 0, 0]),
+    (Event::Treclaim { ra: A }, [8, 0, A, 0, 0]),
+    (Event::Trechkpt, [9, 0, 0, 0, 0]),
+];
+
+const KINDS_10_TO_17: [Bytes; 9] = [
+    (Event::Mtspr { spr: C, ra: A }, [10, C, A, 0, 0]),
+    (Event::Mfspr { rt: A, spr: C }, [11, C, A, 0, 0]),
+    (ld(C, 0), [12, C, 0, 0, 0]),
+    (std(A, 0), [13, 0, A, 0, 0]),
+    (addi(C, A, 0), [14, C, A, 0, 0]),
+    (Event::Disallowed, [15, 0, 0, 0, 0]),
+    (Event::Interrupt, [16, 0, 0, 0, 0]),
+    (
+        Event::Host {
+            pr: true,
+            tm: false,
+        },
+        [17, 0, 0, 0, 1],
+    ),
+    (
+        Event::Host {
+            pr: false,
+            tm: true,
+        },
+        [17, 0, 0, 0, 2],
+    ),
+];
+
 #[test]
 fn bytes_of_each_kind() {
-    let (a, b, c) = (0xA1, 0xB2, 0xC3);
-    let cases = [
-        (Event::Tbegin { r: true }, [1, 0, 0, 0, 1]),
-        (Event::Tend { a: true }, [2, 0, 0, 0, 1]),
-        (Event::Tabort { ra: a }, [3, 0, a, 0, 0]),
-        (
-            Event::Tabortwc {
-                to: c,
-                ra: a,
-                rb: b,
-            },
-            [4, c, a, b, 0],
-        ),
-        (
-            Event::Tabortdc {
-                to: c,
-                ra: a,
-                rb: b,
-            },
-            [5, c, a, b, 0],
-        ),
-        (Event::Tsr { l: true }, [6, 0, 0, 0, 1]),
-        (Event::Tcheck { bf: c }, [7, c, 0, 0, 0]),
-        (Event::Treclaim { ra: a }, [8, 0, a, 0, 0]),
-        (Event::Trechkpt, [9, 0, 0, 0, 0]),
-        (Event::Mtspr { spr: c, ra: a }, [10, c, a, 0, 0]),
-        (Event::Mfspr { rt: a, spr: c }, [11, c, a, 0, 0]),
-        (ld(c, 0), [12, c, 0, 0, 0]),
-        (std(a, 0), [13, 0, a, 0, 0]),
-        (addi(c, a, 0), [14, c, a, 0, 0]),
-        (Event::Disallowed, [15, 0, 0, 0, 0]),
-        (Event::Interrupt, [16, 0, 0, 0, 0]),
-        (
-            Event::Host {
-                pr: true,
-                tm: false,
-            },
-            [17, 0, 0, 0, 1],
-        ),
-        (
-            Event::Host {
-                pr: false,
-                tm: true,
-            },
-            [17, 0, 0, 0, 2],
-        ),
-    ];
-    for (e, [kind, x, ra, rb, flags]) in cases {
+    for (e, [kind, x, ra, rb, flags]) in KINDS_1_TO_9.into_iter().chain(KINDS_10_TO_17) {
         let bytes = [
             0xE3, kind, 0xD4, x, ra, rb, flags, 0, 0, 0, 0, 0, 0, 0, 0, 0,
         ];
@@ -82,6 +94,10 @@ fn bytes_of_each_kind() {
         assert_eq!(read(&bytes), Ok((0xD4, e)));
         assert_eq!(e.kind(), kind);
     }
+}
+
+#[test]
+fn bytes_of_an_index_and_an_immediate() {
     assert_eq!(
         encode(1, ld(2, 0x0102_0304)),
         [0xE3, 12, 1, 2, 0, 0, 0, 0, 1, 2, 3, 4, 0, 0, 0, 0]

@@ -2,60 +2,95 @@
 
 use super::*;
 
+/// Thread 0 makes an access to a line that thread 1 has.
+struct Meeting {
+    /// Thread 0 in N, T, S live, S doomed.
+    accessor: u8,
+    /// Thread 1 writes the line, or reads it.
+    victim_writes: bool,
+    /// Thread 1 in S, or in T.
+    victim_suspended: bool,
+    store: bool,
+}
+
+impl Meeting {
+    /// One of the 32.
+    fn number(n: u8) -> Meeting {
+        Meeting {
+            accessor: n >> 3,
+            victim_writes: n & 4 != 0,
+            victim_suspended: n & 2 != 0,
+            store: n & 1 != 0,
+        }
+    }
+
+    /// Thread 1 has its line; thread 0 has done nothing.
+    fn victim(&self) -> Bench {
+        let mut b = Bench::fresh();
+        b.m.threads[1].pr = false;
+        b.done_by(1, TBEGIN_ROT).done_by(1, TBEGIN);
+        b.m.threads[1].texasr &= !texasr::ROT;
+        let first = if self.victim_writes {
+            std(1, 33)
+        } else {
+            ld(1, 33)
+        };
+        b.done_by(1, first);
+        if self.victim_suspended {
+            b.done_by(1, TSUSPEND);
+        }
+        b
+    }
+
+    /// Takes thread 0 to its state.
+    fn ready_accessor(&self, b: &mut Bench) {
+        if self.accessor > 0 {
+            b.done(TBEGIN);
+        }
+        if self.accessor > 1 {
+            b.done(TSUSPEND);
+        }
+        if self.accessor > 2 {
+            b.gives(TABORT, 21);
+        }
+    }
+
+    /// Thread 1 is to have failed; `nia` is where it was.
+    fn has_failed(&self, t: &Thread, nia: u64) {
+        let cause = if self.accessor == 1 {
+            0x0004_0000_0000_0000
+        } else {
+            0x0008_0000_0000_0000
+        };
+        let s = if self.victim_suspended {
+            texasr::SUSPENDED
+        } else {
+            0
+        };
+        assert_eq!(t.texasr, cause | s | texasr::FS | 2);
+        assert_eq!(t.tfiar, nia);
+        if self.victim_suspended {
+            assert_eq!((t.state, t.doomed), (State::S, true));
+            assert_eq!(t.nia, nia);
+        } else {
+            assert_eq!((t.state, t.doomed), (State::N, false));
+            assert_eq!((t.nia, t.cr0), (4, 10));
+        }
+    }
+}
+
 #[test]
 fn who_fails_whom() {
-    // The accessor in N, T, S live, S doomed; the other thread's line read or
-    // written, the other in T or S.
-    for accessor in 0..4 {
-        for victim_writes in [false, true] {
-            for victim_suspended in [false, true] {
-                for store in [false, true] {
-                    let mut b = Bench::fresh();
-                    b.m.threads[1].pr = false;
-                    b.done_by(1, TBEGIN_ROT).done_by(1, TBEGIN);
-                    b.m.threads[1].texasr &= !texasr::ROT;
-                    b.done_by(1, if victim_writes { std(1, 33) } else { ld(1, 33) });
-                    if victim_suspended {
-                        b.done_by(1, TSUSPEND);
-                    }
-                    let nia = b.thread(1).nia;
-                    if accessor > 0 {
-                        b.done(TBEGIN);
-                    }
-                    if accessor > 1 {
-                        b.done(TSUSPEND);
-                    }
-                    if accessor > 2 {
-                        b.gives(TABORT, 21);
-                    }
-                    let before = b.thread(1).clone();
-                    b.done(if store { std(2, 40) } else { ld(2, 40) });
-                    let t = b.thread(1);
-                    if !store && !victim_writes {
-                        assert_eq!(*t, before);
-                        continue;
-                    }
-                    let cause = if accessor == 1 {
-                        0x0004_0000_0000_0000
-                    } else {
-                        0x0008_0000_0000_0000
-                    };
-                    let s = if victim_suspended {
-                        texasr::SUSPENDED
-                    } else {
-                        0
-                    };
-                    assert_eq!(t.texasr, cause | s | texasr::FS | 2);
-                    assert_eq!(t.tfiar, nia);
-                    if victim_suspended {
-                        assert_eq!((t.state, t.doomed), (State::S, true));
-                        assert_eq!(t.nia, nia);
-                    } else {
-                        assert_eq!((t.state, t.doomed), (State::N, false));
-                        assert_eq!((t.nia, t.cr0), (4, 10));
-                    }
-                }
-            }
+    for meeting in (0..32).map(Meeting::number) {
+        let mut b = meeting.victim();
+        let nia = b.thread(1).nia;
+        meeting.ready_accessor(&mut b);
+        let before = b.thread(1).clone();
+        b.done(if meeting.store { std(2, 40) } else { ld(2, 40) });
+        if meeting.store || meeting.victim_writes {
+            meeting.has_failed(b.thread(1), nia);
+        } else {
+            assert_eq!(*b.thread(1), before);
         }
     }
 }

@@ -11,23 +11,40 @@ pub fn access(threads: &mut [Plain], mem: &mut [u64], me: usize, e: Event, cia: 
         _ => unreachable!(),
     };
     let line = index / 16;
-    let in_t = threads[me].state == State::T;
     let mut number = 0;
     // (a)
-    if in_t {
-        let t = &mut threads[me];
-        let adds_line = store || !t.lower.rot;
-        let new_line = adds_line && !t.lines().contains(&line);
-        let new_place = store && t.logged(index).is_none();
-        if new_line && t.lines().len() == 32 || new_place && t.log.len() == 64 {
-            return own_failure(t, 0x0020_0000, cia);
-        }
+    if overflows(&threads[me], store, index) {
+        return own_failure(&mut threads[me], 0x0020_0000, cia);
     }
     // (b)
     if threads[me].state == State::S && store && threads[me].lines().contains(&line) {
         number = own_failure(&mut threads[me], 0x0010_0000, cia);
     }
     // (c)
+    fail_others(threads, me, store, line);
+    // (d)
+    if store {
+        store_doubleword(&mut threads[me], mem, r, index);
+    } else {
+        load_doubleword(&mut threads[me], mem, r, index);
+    }
+    number
+}
+
+/// (a): the access needs a line or a place in the log that is not there.
+fn overflows(t: &Plain, store: bool, index: u32) -> bool {
+    if t.state != State::T {
+        return false;
+    }
+    let adds_line = store || !t.lower.rot;
+    let new_line = adds_line && !t.lines().contains(&(index / 16));
+    let new_place = store && t.logged(index).is_none();
+    new_line && t.lines().len() == 32 || new_place && t.log.len() == 64
+}
+
+/// (c): the other threads whose transactions the access fails.
+fn fail_others(threads: &mut [Plain], me: usize, store: bool, line: u32) {
+    let in_t = threads[me].state == State::T;
     for (n, t) in threads.iter_mut().enumerate() {
         if n == me || !t.live_transaction() {
             continue;
@@ -40,27 +57,29 @@ pub fn access(threads: &mut [Plain], mem: &mut [u64], me: usize, e: Event, cia: 
             }
         }
     }
-    // (d)
-    let t = &mut threads[me];
-    if store {
-        let value = t.live.gpr[r as usize];
-        if in_t {
-            match t.logged(index) {
-                Some(i) => t.log[i].1 = value,
-                None => t.log.push((index, value)),
-            }
-            t.writes.insert(line);
-        } else {
-            mem[index as usize] = value;
-        }
-    } else {
-        t.live.gpr[r as usize] = match t.logged(index) {
-            Some(i) => t.log[i].1,
-            None => mem[index as usize],
-        };
-        if in_t && !t.lower.rot {
-            t.reads.insert(line);
-        }
+}
+
+/// (d) for a store.
+fn store_doubleword(t: &mut Plain, mem: &mut [u64], ra: u8, index: u32) {
+    let value = t.live.gpr[ra as usize];
+    if t.state != State::T {
+        mem[index as usize] = value;
+        return;
     }
-    number
+    match t.logged(index) {
+        Some(i) => t.log[i].1 = value,
+        None => t.log.push((index, value)),
+    }
+    t.writes.insert(index / 16);
+}
+
+/// (d) for a load.
+fn load_doubleword(t: &mut Plain, mem: &[u64], rt: u8, index: u32) {
+    t.live.gpr[rt as usize] = match t.logged(index) {
+        Some(i) => t.log[i].1,
+        None => mem[index as usize],
+    };
+    if t.state == State::T && !t.lower.rot {
+        t.reads.insert(index / 16);
+    }
 }

@@ -76,160 +76,217 @@ fn chosen(to: u8, signed: Ordering, unsigned: Ordering) -> bool {
     .any(|&(bit, holds)| to & bit != 0 && holds)
 }
 
+/// The address of the next instruction, modulo 2 to the 64.
+fn next(cia: u64) -> u64 {
+    (u128::from(cia) + 4) as u64
+}
+
+/// What CR0 takes from the state.
+fn from_state(t: &Plain) -> u8 {
+    let (ts0, ts1) = t.ts();
+    ts0 * 4 + ts1 * 2
+}
+
+fn reg(t: &Plain, r: u8) -> u64 {
+    t.live.gpr[r as usize]
+}
+
+fn or_zero(t: &Plain, r: u8) -> u64 {
+    if r == 0 {
+        0
+    } else {
+        reg(t, r)
+    }
+}
+
+/// The failure code of a tabort. or treclaim.
+fn code(t: &Plain, ra: u8) -> u32 {
+    ((or_zero(t, ra) & 0xFF) as u32) * 0x0100_0000 + 1
+}
+
 /// Does an event that is valid and has a thread.
 pub fn literal(threads: &mut [Plain], mem: &mut [u64], me: usize, e: Event) -> u8 {
     if let Some(number) = refuses(&threads[me], mem.len(), e) {
         return number;
     }
-    let before = threads[me].clone();
-    let cia = before.nia;
-    let next = (u128::from(cia) + 4) as u64;
-    let (ts0, ts1) = before.ts();
-    let from_state = ts0 * 4 + ts1 * 2;
-    let reg = |r: u8| before.live.gpr[r as usize];
-    let or_zero = |r: u8| if r == 0 { 0 } else { reg(r) };
-    let code = |ra: u8| ((or_zero(ra) & 0xFF) as u32) * 0x0100_0000 + 1;
     let t = &mut threads[me];
+    let cia = t.nia;
     // NIA moves first here; handling sets it again. Events 16 and 17 are no
     // instructions.
     if e.kind() < 16 {
-        t.nia = next;
+        t.nia = next(cia);
     }
+    // Those that can fail a transaction give a number back.
     match e {
-        Event::Tbegin { r } => {
-            t.cr0 = from_state;
-            match t.state {
-                State::N => {
-                    t.checkpoint = t.live;
-                    t.state = State::T;
-                    t.tfhar = next;
-                    t.cause = 0;
-                    t.lower = Lower::from(1);
-                    t.lower.rot = r;
-                }
-                State::T if t.lower.tl == 15 => return own_failure(t, 0x0040_0000, cia),
-                State::T => t.lower.tl += 1,
-                State::S => {}
-            }
-        }
-        Event::Tend { a } => {
-            t.cr0 = from_state;
-            if t.state == State::T {
-                if a || t.lower.tl == 1 {
-                    for &(i, v) in &t.log {
-                        mem[i as usize] = v;
-                    }
-                    t.lower.tl = 0;
-                    t.empty();
-                    t.state = State::N;
-                } else {
-                    t.lower.tl -= 1;
-                }
-            }
-        }
-        Event::Tabort { ra } => {
-            t.cr0 = from_state;
-            if t.state != State::N {
-                return own_failure(t, code(ra), cia);
-            }
-        }
-        Event::Tabortwc { to, ra, rb } => {
-            let (a, b) = (reg(ra) as u32, reg(rb) as u32);
-            let signed = (a as i32).cmp(&(b as i32));
-            t.cr0 = from_state;
-            if chosen(to, signed, a.cmp(&b)) && t.state != State::N {
-                return own_failure(t, 1, cia);
-            }
-        }
-        Event::Tabortdc { to, ra, rb } => {
-            let (a, b) = (reg(ra), reg(rb));
-            let signed = (a as i64).cmp(&(b as i64));
-            t.cr0 = from_state;
-            if chosen(to, signed, a.cmp(&b)) && t.state != State::N {
-                return own_failure(t, 1, cia);
-            }
-        }
-        Event::Tsr { l: false } => {
-            t.cr0 = from_state;
-            if t.state == State::T {
-                t.state = State::S;
-            }
-        }
-        Event::Tsr { l: true } => {
-            t.cr0 = from_state;
-            if t.state == State::S {
-                t.state = State::T;
-                if t.doomed {
-                    t.handle();
-                    return 20;
-                }
-            }
-        }
-        Event::Tcheck { bf } => {
-            let field = u8::from(t.doomed) * 8 + from_state;
-            if bf == 0 {
-                t.cr0 = field;
-            } else {
-                t.live.cr[bf as usize - 1] = field;
-            }
-        }
-        Event::Treclaim { ra } => {
-            t.record(code(ra), true, cia);
-            t.live.gpr = t.checkpoint.gpr;
-            t.live.cr = t.checkpoint.cr;
-            t.cr0 = from_state;
-            t.state = State::N;
-            t.doomed = false;
-            t.empty();
-        }
-        Event::Trechkpt => {
+        Event::Tbegin { r } => return tbegin(t, r, cia),
+        Event::Tend { a } => tend(t, mem, a),
+        Event::Tabort { ra } => return tabort(t, ra, cia),
+        Event::Tabortwc { to, ra, rb } => return tabortwc(t, to, ra, rb, cia),
+        Event::Tabortdc { to, ra, rb } => return tabortdc(t, to, ra, rb, cia),
+        Event::Tsr { l: false } => tsuspend(t),
+        Event::Tsr { l: true } => return tresume(t),
+        Event::Tcheck { bf } => tcheck(t, bf),
+        Event::Treclaim { ra } => treclaim(t, ra, cia),
+        Event::Trechkpt => trechkpt(t),
+        Event::Mtspr { spr, ra } => mtspr(t, spr, ra),
+        Event::Mfspr { rt, spr } => t.live.gpr[rt as usize] = mfspr(t, spr),
+        Event::Ld { .. } | Event::Std { .. } => return access(threads, mem, me, e, cia),
+        Event::Addi { rt, ra, si } => t.live.gpr[rt as usize] = sum(or_zero(t, ra), si),
+        Event::Disallowed => return disallowed(t, cia),
+        Event::Interrupt => interrupt(t),
+        Event::Host { pr, tm } => (t.pr, t.tm) = (pr, tm),
+    }
+    0
+}
+
+fn tbegin(t: &mut Plain, r: bool, cia: u64) -> u8 {
+    t.cr0 = from_state(t);
+    match t.state {
+        State::N => {
             t.checkpoint = t.live;
-            t.cr0 = 0;
-            t.state = State::S;
-            t.doomed = true;
+            t.state = State::T;
+            t.tfhar = next(cia);
+            t.cause = 0;
+            t.lower = Lower::from(1);
+            t.lower.rot = r;
         }
-        Event::Mtspr { spr, ra } => match spr {
-            128 => t.tfhar = reg(ra) / 4 * 4,
-            129 => t.tfiar = reg(ra),
-            130 => {
-                t.cause = (reg(ra) >> 32) as u32;
-                t.lower = Lower::from(reg(ra) as u32);
-            }
-            _ => t.cause = reg(ra) as u32,
-        },
-        Event::Mfspr { rt, spr } => {
-            t.live.gpr[rt as usize] = match spr {
-                128 => t.tfhar,
-                129 if t.pr && t.tfiar.is_multiple_of(2) => 0,
-                129 => t.tfiar,
-                130 => u64::from(t.cause) << 32 | u64::from(t.lower.join()),
-                _ => u64::from(t.cause),
-            };
+        State::T if t.lower.tl == 15 => return own_failure(t, 0x0040_0000, cia),
+        State::T => t.lower.tl += 1,
+        State::S => {}
+    }
+    0
+}
+
+fn tend(t: &mut Plain, mem: &mut [u64], a: bool) {
+    t.cr0 = from_state(t);
+    if t.state != State::T {
+        return;
+    }
+    if a || t.lower.tl == 1 {
+        for &(i, v) in &t.log {
+            mem[i as usize] = v;
         }
-        Event::Ld { .. } | Event::Std { .. } => {
-            return access(threads, mem, me, e, cia);
-        }
-        Event::Addi { rt, ra, si } => {
-            let si = i128::from(si as i16);
-            let sum = (i128::from(or_zero(ra)) + si).rem_euclid(1 << 64);
-            t.live.gpr[rt as usize] = sum as u64;
-        }
-        Event::Disallowed => {
-            if t.state == State::T {
-                return own_failure(t, 0x0080_0000, cia);
-            }
-        }
-        Event::Interrupt => {
-            if t.state == State::T {
-                t.state = State::S;
-            }
-            t.pr = false;
-            t.tm = false;
-        }
-        Event::Host { pr, tm } => {
-            t.pr = pr;
-            t.tm = tm;
+        t.lower.tl = 0;
+        t.empty();
+        t.state = State::N;
+    } else {
+        t.lower.tl -= 1;
+    }
+}
+
+/// An abort on a condition, which holds or not.
+fn abort_if(t: &mut Plain, holds: bool, cause: u32, cia: u64) -> u8 {
+    t.cr0 = from_state(t);
+    if holds && t.state != State::N {
+        own_failure(t, cause, cia)
+    } else {
+        0
+    }
+}
+
+fn tabort(t: &mut Plain, ra: u8, cia: u64) -> u8 {
+    let cause = code(t, ra);
+    abort_if(t, true, cause, cia)
+}
+
+fn tabortwc(t: &mut Plain, to: u8, ra: u8, rb: u8, cia: u64) -> u8 {
+    let (a, b) = (reg(t, ra) as u32, reg(t, rb) as u32);
+    let signed = (a as i32).cmp(&(b as i32));
+    abort_if(t, chosen(to, signed, a.cmp(&b)), 1, cia)
+}
+
+fn tabortdc(t: &mut Plain, to: u8, ra: u8, rb: u8, cia: u64) -> u8 {
+    let (a, b) = (reg(t, ra), reg(t, rb));
+    let signed = (a as i64).cmp(&(b as i64));
+    abort_if(t, chosen(to, signed, a.cmp(&b)), 1, cia)
+}
+
+fn disallowed(t: &mut Plain, cia: u64) -> u8 {
+    if t.state == State::T {
+        own_failure(t, 0x0080_0000, cia)
+    } else {
+        0
+    }
+}
+
+fn tsuspend(t: &mut Plain) {
+    t.cr0 = from_state(t);
+    if t.state == State::T {
+        t.state = State::S;
+    }
+}
+
+fn tresume(t: &mut Plain) -> u8 {
+    t.cr0 = from_state(t);
+    if t.state == State::S {
+        t.state = State::T;
+        if t.doomed {
+            t.handle();
+            return 20;
         }
     }
     0
+}
+
+fn tcheck(t: &mut Plain, bf: u8) {
+    let field = u8::from(t.doomed) * 8 + from_state(t);
+    if bf == 0 {
+        t.cr0 = field;
+    } else {
+        t.live.cr[bf as usize - 1] = field;
+    }
+}
+
+fn treclaim(t: &mut Plain, ra: u8, cia: u64) {
+    t.record(code(t, ra), true, cia);
+    t.live.gpr = t.checkpoint.gpr;
+    t.live.cr = t.checkpoint.cr;
+    t.cr0 = from_state(t);
+    t.state = State::N;
+    t.doomed = false;
+    t.empty();
+}
+
+fn trechkpt(t: &mut Plain) {
+    t.checkpoint = t.live;
+    t.cr0 = 0;
+    t.state = State::S;
+    t.doomed = true;
+}
+
+fn mtspr(t: &mut Plain, spr: u8, ra: u8) {
+    let value = reg(t, ra);
+    match spr {
+        128 => t.tfhar = value / 4 * 4,
+        129 => t.tfiar = value,
+        130 => {
+            t.cause = (value >> 32) as u32;
+            t.lower = Lower::from(value as u32);
+        }
+        _ => t.cause = value as u32,
+    }
+}
+
+fn mfspr(t: &Plain, spr: u8) -> u64 {
+    match spr {
+        128 => t.tfhar,
+        129 if t.pr && t.tfiar.is_multiple_of(2) => 0,
+        129 => t.tfiar,
+        130 => u64::from(t.cause) << 32 | u64::from(t.lower.join()),
+        _ => u64::from(t.cause),
+    }
+}
+
+/// What addi computes, modulo 2 to the 64.
+fn sum(a: u64, si: u16) -> u64 {
+    let si = i128::from(si as i16);
+    (i128::from(a) + si).rem_euclid(1 << 64) as u64
+}
+
+fn interrupt(t: &mut Plain) {
+    if t.state == State::T {
+        t.state = State::S;
+    }
+    t.pr = false;
+    t.tm = false;
 }

@@ -2,82 +2,70 @@
 
 use super::*;
 
+/// Each event that has a register, or a TO, with this number in one of them.
+fn with_operand(n: u8) -> Vec<Event> {
+    let one_of_three = [(0, n, 0), (0, 0, n), (n, 0, 0)];
+    let words = one_of_three.map(|(to, ra, rb)| Event::Tabortwc { to, ra, rb });
+    let doublewords = one_of_three.map(|(to, ra, rb)| Event::Tabortdc { to, ra, rb });
+    let others = [
+        Event::Tabort { ra: n },
+        Event::Treclaim { ra: n },
+        Event::Mtspr { spr: 128, ra: n },
+        Event::Mfspr { rt: n, spr: 128 },
+        ld(n, 0),
+        std(n, 0),
+        addi(n, 0, 0),
+        addi(0, n, 0),
+    ];
+    [&words[..], &doublewords, &others].concat()
+}
+
+/// Each event that has an operand out of range, which is alone in that.
+fn operands_out_of_range() -> Vec<Event> {
+    let registers = [32, 33, 128, 255].into_iter().flat_map(with_operand);
+    let fields = [8, 9, 255].map(|bf| Event::Tcheck { bf });
+    let sprs = [0, 127, 132, 255]
+        .into_iter()
+        .flat_map(|spr| [Event::Mtspr { spr, ra: 0 }, Event::Mfspr { rt: 0, spr }]);
+    let indices = [4096, 4097, 1 << 16, u32::MAX]
+        .into_iter()
+        .flat_map(|index| [ld(0, index), std(0, index)]);
+    registers.chain(fields).chain(sprs).chain(indices).collect()
+}
+
 #[test]
 fn number_4_operands() {
-    let bad = |n: u8| {
-        [
-            Event::Tabort { ra: n },
-            Event::Tabortwc {
-                to: 0,
-                ra: n,
-                rb: 0,
-            },
-            Event::Tabortwc {
-                to: 0,
-                ra: 0,
-                rb: n,
-            },
-            Event::Tabortwc {
-                to: n,
-                ra: 0,
-                rb: 0,
-            },
-            Event::Tabortdc {
-                to: 0,
-                ra: n,
-                rb: 0,
-            },
-            Event::Tabortdc {
-                to: 0,
-                ra: 0,
-                rb: n,
-            },
-            Event::Tabortdc {
-                to: n,
-                ra: 0,
-                rb: 0,
-            },
-            Event::Treclaim { ra: n },
-            Event::Mtspr { spr: 128, ra: n },
-            Event::Mfspr { rt: n, spr: 128 },
-            ld(n, 0),
-            std(n, 0),
-            addi(n, 0, 0),
-            addi(0, n, 0),
-        ]
-    };
     // 4 comes before 5, 11, 12 and 13, and is asked whatever the state.
     for (pr, tm) in [(true, false), (false, true)] {
-        for mut b in in_each_state(pr, tm) {
-            for n in [32, 33, 128, 255] {
-                for e in bad(n) {
-                    b.refused(e, 4);
-                }
-            }
-            for bf in [8, 9, 255] {
-                b.refused(Event::Tcheck { bf }, 4);
-            }
-            for spr in [0, 127, 132, 255] {
-                b.refused(Event::Mtspr { spr, ra: 0 }, 4);
-                b.refused(Event::Mfspr { rt: 0, spr }, 4);
-            }
-            for index in [4096, 4097, 1 << 16, u32::MAX] {
-                b.refused(ld(0, index), 4);
-                b.refused(std(0, index), 4);
-            }
-        }
+        in_each_state(pr, tm).iter_mut().for_each(refuses_operands);
     }
-    // The last of each range is no reason for 4.
+}
+
+fn refuses_operands(b: &mut Bench) {
+    for e in operands_out_of_range() {
+        b.refused(e, 4);
+    }
+}
+
+#[test]
+fn number_4_is_not_for_the_last_of_a_range() {
     for mut b in in_each_state(false, true) {
-        for e in bad(31).into_iter().chain(EACH) {
-            let mut b = b.clone();
-            assert_ne!(step(&mut b.m, &mut b.mem, 0, e), 4);
-        }
+        takes_operands(&b);
         b.mem[4095] = 6;
         b.done(ld(31, 4095));
         assert_eq!(b.thread(0).live.gpr[31], 6);
     }
-    // The memory that is lent decides.
+}
+
+fn takes_operands(b: &Bench) {
+    for e in with_operand(31).into_iter().chain(EACH) {
+        let mut b = b.clone();
+        assert_ne!(step(&mut b.m, &mut b.mem, 0, e), 4);
+    }
+}
+
+#[test]
+fn number_4_by_the_memory_that_is_lent() {
     let mut b = Bench::fresh();
     b.mem.resize(48, 0);
     b.refused(ld(0, 48), 4).refused(std(0, 48), 4);

@@ -68,54 +68,67 @@ fn number_8_kind() {
     }
 }
 
+/// The most that each byte of a record of this kind may hold.
+fn most(kind: u8) -> [u8; 16] {
+    let mut most = [0; 16];
+    most[0] = 0xE3;
+    most[1] = kind;
+    most[2] = 255;
+    let used: &[usize] = match kind {
+        3 | 8 => &[4],
+        4 | 5 => &[3, 4, 5],
+        7 => &[3],
+        10 | 11 => &[3, 4],
+        12 => &[3, 8, 9, 10, 11],
+        13 => &[4, 8, 9, 10, 11],
+        14 => &[3, 4, 12, 13],
+        _ => &[],
+    };
+    for &n in used {
+        most[n] = 255;
+    }
+    most[6] = match kind {
+        1 | 2 | 6 => 1,
+        17 => 3,
+        _ => 0,
+    };
+    most
+}
+
 #[test]
 fn number_9_fields() {
-    // For each kind, the most that each byte may hold.
-    let most = |kind: u8| -> [u8; 16] {
-        let mut most = [0; 16];
-        most[0] = 0xE3;
-        most[1] = kind;
-        most[2] = 255;
-        let used: &[usize] = match kind {
-            3 | 8 => &[4],
-            4 | 5 => &[3, 4, 5],
-            7 => &[3],
-            10 | 11 => &[3, 4],
-            12 => &[3, 8, 9, 10, 11],
-            13 => &[4, 8, 9, 10, 11],
-            14 => &[3, 4, 12, 13],
-            _ => &[],
-        };
-        for &n in used {
-            most[n] = 255;
-        }
-        most[6] = match kind {
-            1 | 2 | 6 => 1,
-            17 => 3,
-            _ => 0,
-        };
-        most
-    };
     for kind in 1..=17 {
-        let most = most(kind);
-        assert!(read(&most).is_ok());
-        for n in 2..16 {
-            for byte in 0..=255 {
-                for mut record in [most, [0; 16]] {
-                    record[..2].copy_from_slice(&[0xE3, kind]);
-                    record[n] = byte;
-                    if byte <= most[n] {
-                        let (thread, e) = read(&record).expect("a used field");
-                        let mut back = [0; 16];
-                        assert_eq!(write(thread, e, &mut back), 0);
-                        assert_eq!(back, record);
-                    } else {
-                        assert_eq!(read(&record), Err(9), "kind {kind}, byte {n} = {byte}");
-                    }
-                }
-            }
+        each_byte(kind);
+    }
+}
+
+fn each_byte(kind: u8) {
+    assert!(read(&most(kind)).is_ok());
+    for n in 2..16 {
+        each_value_of_a_byte(kind, n);
+    }
+}
+
+/// Byte `n` of a record of this kind, the others being full and being zero.
+fn each_value_of_a_byte(kind: u8, n: usize) {
+    let most = most(kind);
+    let mut least = [0; 16];
+    least[..2].copy_from_slice(&[0xE3, kind]);
+    for (byte, mut record) in (0..=255).flat_map(|byte| [(byte, most), (byte, least)]) {
+        record[n] = byte;
+        if byte <= most[n] {
+            is_read_and_written_back(record);
+        } else {
+            assert_eq!(read(&record), Err(9), "kind {kind}, byte {n} = {byte}");
         }
     }
+}
+
+fn is_read_and_written_back(record: [u8; 16]) {
+    let (thread, e) = read(&record).expect("a used field");
+    let mut back = [0; 16];
+    assert_eq!(write(thread, e, &mut back), 0);
+    assert_eq!(back, record);
 }
 
 #[test]

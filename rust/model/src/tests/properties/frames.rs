@@ -1,0 +1,99 @@
+//! What an event may touch, and what its answer means.
+
+use super::*;
+use crate::machine::texasr;
+
+#[test]
+fn frames() {
+    seeds(30_000, |rng| {
+        let s = Stepped::draw(rng);
+        if answer::is_done(s.number) {
+            memory(&s);
+            other_threads(&s);
+            answers(&s);
+            own_registers(&s);
+        }
+    });
+}
+
+/// Memory is changed by a store not in T, or a tend. that commits.
+fn memory(s: &Stepped) {
+    let (old, new) = s.own();
+    match s.e {
+        Event::Std { ra, index } if old.state != State::T => {
+            let mut mem = s.before.mem.clone();
+            mem[index as usize] = old.live.gpr[ra as usize];
+            assert_eq!(s.after.mem, mem);
+        }
+        Event::Tend { .. } if old.state == State::T && new.state == State::N => {
+            for (i, (was, is)) in s.before.mem.iter().zip(&s.after.mem).enumerate() {
+                let logged = old.log[..old.count].iter().find(|e| e.index == i as u32);
+                assert_eq!(*is, logged.map_or(*was, |e| e.value));
+            }
+        }
+        _ => assert_eq!(s.after.mem, s.before.mem),
+    }
+}
+
+/// Only an access that is made touches other threads, and those with a live
+/// transaction alone.
+fn other_threads(s: &Stepped) {
+    for n in s.others() {
+        let (old, new) = s.each(n);
+        if old != new {
+            assert!(matches!(s.e, Event::Ld { .. } | Event::Std { .. }));
+            assert!(old.is_live() && s.number != 20);
+            failed_by_another(old, new);
+        }
+    }
+}
+
+fn failed_by_another(old: &Thread, new: &Thread) {
+    assert!(new.failed() && new.texasr & texasr::EXACT == 0);
+    assert_eq!(new.tfiar, old.nia | u64::from(old.pr));
+    if old.state == State::T {
+        assert_eq!((new.state, new.cr0), (State::N, 10));
+        assert_eq!(new.nia, old.tfhar);
+        assert_eq!(new.live, old.checkpoint);
+    } else {
+        assert_eq!((new.state, new.doomed), (State::S, true));
+        assert_eq!((new.nia, new.live, new.cr0), (old.nia, old.live, old.cr0));
+    }
+}
+
+/// What each answer says of the thread.
+fn answers(s: &Stepped) {
+    let (old, new) = s.own();
+    match s.number {
+        20 => {
+            assert_eq!((new.state, new.cr0), (State::N, 10));
+            assert_eq!(new.nia, old.tfhar);
+            assert!(new.failed());
+        }
+        21 => {
+            assert_eq!(old.state, State::S);
+            assert!(!old.failed() && new.failed() && new.doomed);
+            assert_eq!(new.nia, old.nia.wrapping_add(4));
+        }
+        _ => {
+            let moves = s.e.kind() < 16;
+            let nia = if moves {
+                old.nia.wrapping_add(4)
+            } else {
+                old.nia
+            };
+            assert_eq!(new.nia, nia);
+        }
+    }
+}
+
+/// PR and TM, and what a failure has recorded, are changed by few kinds.
+fn own_registers(s: &Stepped) {
+    let (old, new) = s.own();
+    let kind = s.e.kind();
+    assert!(new.pr == old.pr || matches!(kind, 16 | 17));
+    assert!(new.tm == old.tm || matches!(kind, 16 | 17));
+    if old.failed() && !matches!(kind, 1 | 10) {
+        assert_eq!((new.texasr, new.tfiar), (old.texasr, old.tfiar));
+    }
+}

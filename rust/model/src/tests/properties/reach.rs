@@ -1,0 +1,210 @@
+//! The generators are to reach everything: each kind in each state, done and
+//! not, and each special case of an access.
+
+use std::collections::BTreeMap;
+
+use super::*;
+
+#[test]
+fn reach() {
+    let mut seen = Seen::default();
+    let mut rng = Rng::new(77);
+    for _ in 0..60_000 {
+        seen.event(&Stepped::draw(&mut rng));
+    }
+    let wanted = wanted();
+    let rare: Vec<_> = wanted
+        .iter()
+        .map(|w| (w, seen.0.get(w).copied().unwrap_or(0)))
+        .filter(|&(_, n)| n < 8)
+        .collect();
+    assert!(rare.is_empty(), "{rare:#?}");
+}
+
+fn class(t: &Thread) -> &'static str {
+    match (t.state, t.doomed) {
+        (State::N, _) => "N",
+        (State::T, _) => "T",
+        (State::S, false) => "S live",
+        (State::S, true) => "S doomed",
+    }
+}
+
+/// How often each thing was seen.
+#[derive(Default)]
+struct Seen(BTreeMap<String, usize>);
+
+impl Seen {
+    fn note(&mut self, what: impl Into<String>) {
+        *self.0.entry(what.into()).or_default() += 1;
+    }
+
+    fn event(&mut self, s: &Stepped) {
+        let number = s.number;
+        self.note(format!("answer {number}"));
+        if s.thread >= s.before.m.count {
+            return;
+        }
+        let (t, after) = s.own();
+        let kind = s.e.kind();
+        self.note(format!("kind {kind} in {}", class(t)));
+        self.note(format!("kind {kind} in {}: {number}", class(t)));
+        let done_in_t = number == 0 && t.state == State::T;
+        match s.e {
+            Event::Ld { index, .. } => self.access(s, "ld", index),
+            Event::Std { index, .. } => self.access(s, "std", index),
+            Event::Tbegin { .. } if done_in_t => {
+                self.note(format!("nested to {}", after.level()));
+            }
+            Event::Tend { .. } if done_in_t => {
+                self.note(format!("tend to {:?}, rot {}", after.state, t.rot()));
+            }
+            _ => {}
+        }
+    }
+
+    fn access(&mut self, s: &Stepped, name: &str, index: u32) {
+        if index as usize >= s.before.mem.len() || !answer::is_done(s.number) {
+            return;
+        }
+        if s.number == 20 {
+            self.overflow(s, name, index as usize / 16);
+        } else {
+            self.access_made(s, name, index);
+            self.victims(s, name);
+        }
+    }
+
+    fn overflow(&mut self, s: &Stepped, name: &str, line: usize) {
+        let t = s.before.thread(s.thread);
+        let lines = !has(t, line) && t.footprint() == 32;
+        let places = t.count == 64;
+        self.note(format!("{name} overflow: lines {lines}, places {places}"));
+        let hits = s.others().any(|n| has(s.before.thread(n), line));
+        self.note(format!("{name} overflow at another's line: {hits}"));
+    }
+
+    fn access_made(&mut self, s: &Stepped, name: &str, index: u32) {
+        let t = s.before.thread(s.thread);
+        let mine = has(t, index as usize / 16);
+        let logged = t.log[..t.count].iter().any(|e| e.index == index);
+        self.note(format!(
+            "{name} in {}: own line {mine}, logged {logged}",
+            class(t)
+        ));
+        if t.footprint() == 32 && t.state == State::T {
+            self.note(format!("{name} at 32: own line {mine}, rot {}", t.rot()));
+        }
+        if t.count == 64 && t.state == State::T {
+            self.note(format!("{name} at 64: logged {logged}"));
+        }
+    }
+
+    /// The other threads that an access fails.
+    fn victims(&mut self, s: &Stepped, name: &str) {
+        let t = s.before.thread(s.thread);
+        let mut victims = 0;
+        for n in s.others().filter(|&n| s.each(n).0 != s.each(n).1) {
+            victims += 1;
+            let victim = class(s.before.thread(n));
+            self.note(format!("{name} in {} fails {victim}", class(t)));
+            if s.number == 21 {
+                self.note("own failure and another's");
+            }
+            if t.rot() && name == "ld" && t.state == State::T {
+                self.note("rot load fails another");
+            }
+        }
+        self.note(format!("{name}: {victims} victims"));
+    }
+}
+
+/// Whether the thread has the line in either set.
+fn has(t: &Thread, line: usize) -> bool {
+    t.reads.contains(line) || t.writes.contains(line)
+}
+
+const STATES: [&str; 4] = ["N", "T", "S live", "S doomed"];
+const LIVE: [&str; 2] = ["T", "S live"];
+
+/// Answers that a kind has in a state besides that of `of_kind`.
+const OTHER_ANSWERS: [(u8, &str, u8); 9] = [
+    (1, "T", 20),
+    (4, "T", 20),
+    (5, "T", 20),
+    (4, "S live", 21),
+    (5, "S live", 21),
+    (6, "S doomed", 0),
+    (13, "S live", 21),
+    (12, "T", 20),
+    (13, "T", 20),
+];
+
+const SPECIAL: [&str; 15] = [
+    "std overflow: lines false, places true",
+    "std overflow: lines true, places true",
+    "ld at 32: own line false, rot true",
+    "std at 64: logged true",
+    "ld at 64: logged false",
+    "ld: 1 victims",
+    "std: 1 victims",
+    "std: 2 victims",
+    "std: 3 victims",
+    "own failure and another's",
+    "rot load fails another",
+    "tend to N, rot false",
+    "tend to N, rot true",
+    "tend to T, rot false",
+    "tend to T, rot true",
+];
+
+/// All that is to be seen often enough.
+fn wanted() -> Vec<String> {
+    let answers = [0, 20, 21, 3, 4, 5, 11, 12, 13].map(|number| format!("answer {number}"));
+    let kinds = (1..=17).flat_map(|kind| STATES.map(|state| of_kind(kind, state)));
+    let others =
+        OTHER_ANSWERS.map(|(kind, state, number)| format!("kind {kind} in {state}: {number}"));
+    let levels = [2, 3, 15].map(|level| format!("nested to {level}"));
+    let accesses = ["ld", "std"].into_iter().flat_map(of_access);
+    let mut wanted = answers.to_vec();
+    wanted.extend(kinds.flatten());
+    wanted.extend(others);
+    wanted.extend(levels);
+    wanted.extend(accesses);
+    wanted.extend(SPECIAL.map(String::from));
+    wanted
+}
+
+/// A kind in a state, and an answer that it has there if it is ever done there.
+fn of_kind(kind: u8, state: &str) -> Vec<String> {
+    let reached = format!("kind {kind} in {state}");
+    let done = match (kind, state) {
+        // Refused there always.
+        (2 | 9 | 10, "S live" | "S doomed") | (9 | 10 | 17, "T") | (8, "N") => {
+            return vec![reached];
+        }
+        (3 | 15, "T") => 20,
+        (3, "S live") => 21,
+        (6, "S doomed") => 20,
+        _ => 0,
+    };
+    let answered = format!("{reached}: {done}");
+    vec![reached, answered]
+}
+
+fn of_access(name: &str) -> Vec<String> {
+    let limits = [
+        format!("{name} overflow at another's line: true"),
+        format!("{name} overflow: lines true, places false"),
+        format!("{name} at 32: own line true, rot false"),
+    ];
+    let victims = STATES
+        .into_iter()
+        .flat_map(|state| LIVE.map(|victim| format!("{name} in {state} fails {victim}")));
+    // In S a store to an own line gives 21, and is noted too.
+    let lines = LIVE.into_iter().flat_map(|state| {
+        [(true, true), (true, false), (false, false)]
+            .map(|(mine, logged)| format!("{name} in {state}: own line {mine}, logged {logged}"))
+    });
+    limits.into_iter().chain(victims).chain(lines).collect()
+}
