@@ -15,7 +15,9 @@ use Rattle.common.specs.Common.{fails, dooms}
 use Rattle.aborts.specs.Compare as compare
 use Rattle.access.specs.Access.{ld-overflows, std-overflows, ld, logs, meets-own, std}
 use Rattle.aborts.specs.Aborts.{tabort, tabort-if}
-use Rattle.own.specs.Events.{own, tbegin, tsuspend, tsr, overflows, addi, disallowed, host}
+use Rattle.begins.specs.Begins.{tbegin, tsuspend, tsr}
+use Rattle.plain.specs.Plain.{addi, disallowed, host}
+use Rattle.own.specs.Events.{own, overflows}
 use Rattle.machine.specs.Machine.{fresh, fresh-thread}
 use Rattle.machine.specs.Valid as valid
 use Rattle.refusal.specs.Refusal.{bad-thing, refused-there, refused-later, refusal}

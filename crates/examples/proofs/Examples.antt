@@ -15,6 +15,10 @@ use Rattle.common.specs.Common.{fails}
 use Rattle.aborts.specs.Compare as compare
 use Rattle.aborts.specs.Aborts as aborts
 use Rattle.access.specs.Access as access
+use Rattle.begins.specs.Begins as begins
+use Rattle.reclaims.specs.Reclaims as reclaims
+use Rattle.special.specs.Special as special
+use Rattle.plain.specs.Plain as plain
 use Rattle.own.specs.Events as events
 use Rattle.machine.specs.Machine.{fresh, fresh-thread}
 use Rattle.machine.specs.Valid as valid
@@ -31,8 +35,8 @@ unfolding all-below any-below count-below
     lineset.place lineset.empty lineset.has lineset.with lineset.meets lineset.footprint
     transaction.empty transaction.discard transaction.lookup-in transaction.loaded transaction.crowded transaction.full transaction.store-at transaction.commit-in
     recording handling kind operands-right fails compare.picked compare.holds
-    events.own events.tend aborts.tabort aborts.tabort-if events.tsuspend events.tsr events.treclaim events.get-spr events.mfspr
-    access.ld-overflows access.std-overflows events.overflows access.ld access.logs access.meets-own access.std events.addi events.disallowed events.interrupt
+    events.own begins.tend aborts.tabort aborts.tabort-if begins.tsuspend begins.tsr reclaims.treclaim special.get-spr special.mfspr
+    access.ld-overflows access.std-overflows events.overflows access.ld access.logs access.meets-own access.std plain.addi plain.disallowed plain.interrupt
     fresh fresh-thread
     valid.sized valid.shaped valid.place-right valid.unused-zero valid.aligned valid.cr-small valid.fields-small valid.no-line valid.holds-nothing valid.live-rules valid.state-rules valid.indices-inside valid.line-inside valid.lines-inside valid.unlike valid.distinct valid.logs-line valid.line-logged valid.writes-logged valid.held-right valid.thread-valid valid.clash valid.clear-of valid.apart valid.thread-right valid.threads-right valid.valid
     bad-thing refused-there refused-later refusal struck strike others perform step tells seen

@@ -12,7 +12,7 @@ use Rattle.base.proofs.Below.{fork, all-at, all-from}
 use Rattle.lines.specs.Lines as lineset
 use Rattle.transaction.specs.declared.Transaction.{Transaction}
 use Rattle.common.specs.Common.{next, advance, ts-field, cr0-from-state, put-gpr}
-use Rattle.own.specs.Events.{put-cr}
+use Rattle.reclaims.specs.Reclaims.{put-cr}
 use Rattle.thread.specs.Texasr.{tl}
 use Rattle.thread.specs.Thread.{with-live, with-cr0, with-control, with-transaction, take-checkpoint}
 use Rattle.thread.specs.declared.Registers.{Registers}

@@ -21,7 +21,11 @@ use Rattle.event.proofs.Laws.{access-in}
 use Rattle.common.specs.Common.{Ran, passes, cr0-from-state, put-gpr, own-recording, fails, dooms, cr0-only, leveled}
 use Rattle.access.specs.Access.{tracked, ld-overflows, std-overflows, takes, joins, ld, logs, meets-own, std}
 use Rattle.aborts.specs.Aborts.{abort-cause, tabort, tabort-if}
-use Rattle.own.specs.Events.{begins, tbegin, commits, tend, moves, tsuspend, tresume, tsr, check-field, tcheck, treclaim, trechkpt, special, put-spr, mtspr, mfspr, addi, disallowed, interrupted, interrupt, host, own}
+use Rattle.begins.specs.Begins.{begins, tbegin, commits, tend, moves, tsuspend, tresume, tsr}
+use Rattle.reclaims.specs.Reclaims.{check-field, tcheck, treclaim, trechkpt}
+use Rattle.special.specs.Special.{special, put-spr, mtspr, mfspr}
+use Rattle.plain.specs.Plain.{addi, disallowed, interrupted, interrupt, host}
+use Rattle.own.specs.Events.{own}
 use Rattle.common.specs.declared.Did.{Did}
 use Rattle.thread.specs.Texasr.{tl, begun}
 use Rattle.thread.specs.Thread.{with-control, failed, recording}

@@ -24,7 +24,11 @@ use Rattle.event.proofs.Laws.{access-in}
 use Rattle.common.specs.Common.{Ran, passes, cr0-from-state, fails, dooms}
 use Rattle.access.specs.Access.{takes, joins, tracked, ld-overflows, std-overflows, ld, logs, meets-own, std}
 use Rattle.aborts.specs.Aborts.{tabort, tabort-if}
-use Rattle.own.specs.Events.{tbegin, commits, tend, tsuspend, tresume, tsr, tcheck, treclaim, trechkpt, mtspr, mfspr, overflows, addi, disallowed, interrupt, host, own}
+use Rattle.begins.specs.Begins.{tbegin, commits, tend, tsuspend, tresume, tsr}
+use Rattle.reclaims.specs.Reclaims.{tcheck, treclaim, trechkpt}
+use Rattle.special.specs.Special.{mtspr, mfspr}
+use Rattle.plain.specs.Plain.{addi, disallowed, interrupt, host}
+use Rattle.own.specs.Events.{overflows, own}
 use Rattle.common.specs.declared.Did.{Did}
 use Rattle.machine.specs.Valid.{memory-sized, thread-valid}
 use Rattle.keeping.proofs.Held.{Shaped, join-has, store-has, store-reads, empty-touches}

@@ -1,9 +1,4 @@
-// What an event does to its own thread: one function for each kind, or for a family of kinds (document 01, "Events"). Aborts and
-// accesses stand in crates of their own.
-pub mod begins;
-pub mod plain;
-pub mod reclaims;
-pub mod special;
+// What an event does to its own thread and to memory (document 01, "Events"): it goes to the crate of its family.
 
 ghost use mathlib.Core.Path.{_≡_};
 ghost use mathlib.Core.Bool.{true};

@@ -18,7 +18,11 @@ use Rattle.common.specs.Common.{Ran, cr0-from-state, gpr, fails, dooms}
 use Rattle.aborts.specs.Compare.{holds-in-words, holds-in-doublewords}
 use Rattle.access.specs.Access.{ld-overflows, std-overflows, ld, logs, meets-own, std}
 use Rattle.aborts.specs.Aborts.{abort-cause, tabort, tabort-if}
-use Rattle.own.specs.Events.{tbegin, commits, tend, tsuspend, tresume, tsr, tcheck, treclaim, trechkpt, mtspr, mfspr, addi, disallowed, interrupt, host, own}
+use Rattle.begins.specs.Begins.{tbegin, commits, tend, tsuspend, tresume, tsr}
+use Rattle.reclaims.specs.Reclaims.{tcheck, treclaim, trechkpt}
+use Rattle.special.specs.Special.{mtspr, mfspr}
+use Rattle.plain.specs.Plain.{addi, disallowed, interrupt, host}
+use Rattle.own.specs.Events.{own}
 use Rattle.common.specs.declared.Did.{Did}
 use Rattle.run.specs.Run.{goes-on}
 

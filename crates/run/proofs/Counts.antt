@@ -1,7 +1,7 @@
 -- Where a run ends: at the tape's end, or at the first record that is refused.
 use mathlib.Core.Path.{_≡_, refl, sym, ap, subst, _∙_}
 use mathlib.Core.Bool.{Bool, true, false, true≢false}
-use mathlib.Core.Logic.{inl, inr, ⊎-elim}
+use mathlib.Core.Logic.{inl, inr}
 use mathlib.Core.List.{List}
 use Prim.Native.Nat.{ℕ, zero, suc, _+_, _-_, _/_}
 use native.Mathlib.Omega.{arith}
@@ -10,7 +10,6 @@ use lib.ListN.{length}
 use borrow.Author.Tests.{eqb-true, ne-eqb}
 use Rattle.machine.specs.declared.Machine.{Machine}
 use Rattle.machine.proofs.Validity.{valid-sized}
-use Rattle.event.specs.declared.Event.{Event}
 use Rattle.step.specs.Step.{step}
 use Rattle.tape.specs.Tape.{record-size, read}
 use Rattle.tape.specs.declared.Read.{Read}
@@ -18,7 +17,7 @@ use Rattle.tape.specs.declared.Read.the-variants.{Record, Refused}
 use Rattle.run.specs.Run.{Result, goes-on, record-at, counted, one, run-from, run}
 use Rattle.run.specs.Steps.{Stops, EndsAt, EndsFirst}
 use Rattle.run.proofs.Laws.{is-counted, run-stops, run-goes}
-use Rattle.run.proofs.Steps.{stop-changes-nothing, one-counts}
+use Rattle.run.proofs.Steps.{stop-changes-nothing}
 
 -- a record that is not counted ends the run, and the machine given back is the one that it was refused on
 one-ends : (r : Read) (m : Machine) (mem : List ℕ) (k : ℕ) → eqb (one r m mem k .ended .count) k ≡ true

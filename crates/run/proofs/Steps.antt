@@ -39,7 +39,7 @@ stop-changes-nothing m mem w e p = go (ℕ-discrete (refusal m (length mem) w e)
         (ap (λ (x : Outcome). x .done .machine) o, ap (λ (x : Outcome). x .memory) o)
 
 -- a record that is not counted changes nothing; one that is counted is its step
-pub one-stops : (r : Read) (m : Machine) (mem : List ℕ) (k : ℕ) → eqb (one r m mem k .ended .count) k ≡ true → (one r m mem k .ended .machine ≡ m) × (one r m mem k .memory ≡ mem)
+one-stops : (r : Read) (m : Machine) (mem : List ℕ) (k : ℕ) → eqb (one r m mem k .ended .count) k ≡ true → (one r m mem k .ended .machine ≡ m) × (one r m mem k .memory ≡ mem)
 unfolding one counted
 one-stops (Refused n) m mem k p = (refl, refl)
 one-stops (Record w e) m mem k p = go (goes-on (step m mem w e .done .answer)) refl
@@ -56,7 +56,7 @@ pub record Counts (r : Read) (m : Machine) (mem : List ℕ) (k : ℕ) : Type 0 w
   pub went : goes-on (step m mem w e .done .answer) ≡ true
   pub whole : one r m mem k ≡ result (step m mem w e .done .answer) (k + 1) (step m mem w e .done .machine) (step m mem w e .memory)
 
-pub one-counts : (r : Read) (m : Machine) (mem : List ℕ) (k : ℕ) → eqb (one r m mem k .ended .count) k ≡ false → Counts r m mem k
+one-counts : (r : Read) (m : Machine) (mem : List ℕ) (k : ℕ) → eqb (one r m mem k .ended .count) k ≡ false → Counts r m mem k
 unfolding one
 one-counts (Refused n) m mem k p = absurd (true≢false (sym (eq-eqb k k refl) ∙ p))
 one-counts (Record v f) m mem k p = go (goes-on (step m mem v f .done .answer)) refl

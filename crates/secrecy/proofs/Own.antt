@@ -29,7 +29,11 @@ use Rattle.event.specs.declared.Event.the-variants.{Tbegin, Tend, Tabort, Tabor
 use Rattle.common.specs.Common.{Ran, did, ran, passes, gpr, fails}
 use Rattle.access.specs.Access.{tracked, ld-overflows, std-overflows, takes, ld, logs, std}
 use Rattle.aborts.specs.Aborts.{abort-cause, tabort}
-use Rattle.own.specs.Events.{tbegin, commits, tend, tresume, tsr, tcheck, treclaim, mfspr, overflows, addi, disallowed, host, own}
+use Rattle.begins.specs.Begins.{tbegin, commits, tend, tresume, tsr}
+use Rattle.reclaims.specs.Reclaims.{tcheck, treclaim}
+use Rattle.special.specs.Special.{mfspr}
+use Rattle.plain.specs.Plain.{addi, disallowed, host}
+use Rattle.own.specs.Events.{overflows, own}
 use Rattle.common.specs.declared.Did.{Did}
 use Rattle.refusal.specs.Refusal.{bad-thing, refused-there}
 use Rattle.keeping.proofs.Own.{not-bad}
