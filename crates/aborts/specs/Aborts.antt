@@ -4,7 +4,6 @@ use mathlib.Core.Bool.{Bool, cond}
 use Rattle.thread.specs.Texasr.{cause-abort}
 use Rattle.thread.specs.declared.State.{State}
 use Rattle.thread.specs.declared.State.the-variants.{N, T, S}
-use Rattle.thread.specs.declared.Control.{Control}
 use Rattle.thread.specs.declared.Thread.{Thread}
 use Rattle.common.specs.Common.{cr0-from-state, cr0-only, gpr, gpr-or-0, fails, dooms}
 use Rattle.common.specs.declared.Did.{Did}

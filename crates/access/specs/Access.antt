@@ -6,12 +6,10 @@ use mathlib.Core.List.{List}
 use lib.ListN.{set}
 use lib.Dec.{eqb}
 use Rattle.transaction.specs.Transaction as transaction
-use Rattle.transaction.specs.declared.Transaction.{Transaction}
 use Rattle.thread.specs.Texasr.{rot, cause-footprint, cause-self}
 use Rattle.thread.specs.Thread.{with-transaction}
 use Rattle.thread.specs.declared.State.{State}
 use Rattle.thread.specs.declared.State.the-variants.{N, T, S}
-use Rattle.thread.specs.declared.Control.{Control}
 use Rattle.thread.specs.declared.Thread.{Thread}
 use Rattle.common.specs.Common.{Ran, ran, passes, put-gpr, fails, dooms}
 use Rattle.common.specs.declared.Did.{Did}

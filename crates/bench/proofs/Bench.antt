@@ -20,7 +20,7 @@ use Rattle.plain.specs.Plain.{addi, disallowed, host}
 use Rattle.own.specs.Events.{own, overflows}
 use Rattle.machine.specs.Machine.{fresh, fresh-thread}
 use Rattle.machine.specs.Valid as valid
-use Rattle.refusal.specs.Refusal.{bad-thing, refused-there, refused-later, refusal}
+use Rattle.refusal.specs.Refusal.{bad-thing, refused-there, refused-later}
 use Rattle.conflict.specs.Conflict.{struck, strike, others}
 use Rattle.step.specs.Step.{Outcome, outcome, Fed, after, perform, step}
 use Rattle.refusal.proofs.Laws.{refusal-valid}

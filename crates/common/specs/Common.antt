@@ -1,11 +1,10 @@
 -- What the events on one thread share (document 01, "Events"): the next address, CR0 from state, the thread's own failure.
 use Prim.Native.Nat.{ℕ, _+_, _*_, _%_, _^_}
-use mathlib.Core.Bool.{Bool, true, false, cond}
+use mathlib.Core.Bool.{true, cond}
 use mathlib.Core.List.{List}
 use lib.ListN.{getD, set}
 use lib.Dec.{eqb}
 use Rattle.thread.specs.Thread.{with-live, with-cr0, with-control, with-nia, with-texasr, failed, recording, handling}
-use Rattle.thread.specs.declared.Registers.{Registers}
 use Rattle.thread.specs.declared.State.{State}
 use Rattle.thread.specs.declared.State.the-variants.{N, T, S}
 use Rattle.thread.specs.declared.Thread.{Thread}

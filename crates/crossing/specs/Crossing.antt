@@ -1,7 +1,7 @@
 -- A machine as plain numbers, and back: how it crosses to a host in C or Rust.
 use Prim.Native.Nat.{ℕ}
 use mathlib.Core.Bool.{Bool, cond, _&&_}
-use mathlib.Core.List.{List, [], _∷_}
+use mathlib.Core.List.{[], _∷_}
 use lib.Dec.{eqb, leb}
 use lib.ListN.{getD}
 use Rattle.base.specs.Below.{bit}

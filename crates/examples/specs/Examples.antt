@@ -9,7 +9,6 @@ use Rattle.transaction.specs.Transaction as transaction
 use Rattle.transaction.specs.declared.Transaction.{Transaction}
 use Rattle.thread.specs.declared.State.the-variants.{T}
 use Rattle.thread.specs.declared.Thread.{Thread}
-use Rattle.event.specs.declared.Event.{Event}
 use Rattle.machine.specs.Machine.{blank-registers, fresh-thread}
 use Rattle.machine.specs.Valid.{valid}
 use Rattle.step.specs.Step.{Outcome, outcome, Fed}

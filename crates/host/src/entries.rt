@@ -1,7 +1,7 @@
 // What a host calls. No contract asks anything of the caller but that a pointer and its length are true.
 ghost use mathlib.Core.Path.{_≡_};
 ghost use Rattle.machine.specs.Machine.{fresh};
-ghost use Rattle.crossing.specs.Crossing.{raw-machine, machine-of};
+ghost use Rattle.crossing.specs.Crossing.{raw-machine};
 ghost use Rattle.host.specs.Host.{version, machine-number, number, first-of, step, run, read, write-answer, write};
 use crate::RawDone;
 use crate::RawEnded;

@@ -3,7 +3,7 @@ use Prim.Native.Nat.{ℕ}
 use mathlib.Core.Bool.{Bool, true, false}
 use mathlib.Core.List.{List, []}
 use lib.ListN.{getD, replicate}
-use Rattle.base.specs.Limits.{line-size, lines, most-threads}
+use Rattle.base.specs.Limits.{most-threads}
 use Rattle.lines.specs.declared.LineSet.{LineSet}
 use Rattle.transaction.specs.Transaction as transaction
 use Rattle.thread.specs.declared.Registers.{Registers}

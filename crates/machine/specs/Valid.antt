@@ -1,7 +1,6 @@
 -- The valid machine, clause by clause (document 01, "The machine": "A machine is valid when ..").
-use Prim.Native.Nat.{ℕ, _*_, _/_, _%_}
+use Prim.Native.Nat.{ℕ, _*_, _%_}
 use mathlib.Core.Bool.{Bool, true, false, not, cond, _&&_, _||_, Bool·beq}
-use mathlib.Core.List.{List}
 use lib.Dec.{eqb, leb, ltb}
 use lib.ListN.{getD, length}
 use Rattle.base.specs.Limits.{line-size, lines, words, most-footprint, most-places, most-levels, most-threads}

@@ -6,7 +6,6 @@ use lib.Dec.{eqb}
 use Rattle.base.specs.Below.{bit}
 use Rattle.transaction.specs.Transaction as transaction
 use Rattle.thread.specs.Thread.{with-live, with-cr0, with-control, with-transaction, in-state, take-checkpoint, restore}
-use Rattle.thread.specs.declared.Registers.{Registers}
 use Rattle.thread.specs.declared.State.the-variants.{N, S}
 use Rattle.thread.specs.declared.Control.{Control}
 use Rattle.thread.specs.declared.Thread.{Thread}

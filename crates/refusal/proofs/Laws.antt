@@ -1,6 +1,6 @@
 -- Laws of the refusals: what an event that is not refused tells, its thread and its operands.
 use mathlib.Core.Path.{_≡_}
-use mathlib.Core.Bool.{true, false, not, cond}
+use mathlib.Core.Bool.{true, not, cond}
 use Prim.Native.Nat.{ℕ, _<_}
 use lib.Dec.{leb}
 use borrow.Author.Tests.{leb-false, not-false}

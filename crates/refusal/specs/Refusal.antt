@@ -1,7 +1,7 @@
 -- Which event is refused, and by which number (document 01, "Numbers given back"): first 1 to 5, then 11 to 13.
 use Prim.Native.Nat.{ℕ}
 use mathlib.Core.Bool.{Bool, true, false, not, cond, _&&_, _||_}
-use lib.Dec.{eqb, leb, ltb}
+use lib.Dec.{eqb, leb}
 use Rattle.thread.specs.Thread.{failed}
 use Rattle.thread.specs.declared.State.{State}
 use Rattle.thread.specs.declared.State.the-variants.{N, T, S}

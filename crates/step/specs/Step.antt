@@ -1,6 +1,6 @@
 -- One event: refused by a number with nothing changed, or done on its own thread, on the others and on memory.
 use Prim.Native.Nat.{ℕ}
-use mathlib.Core.Bool.{Bool, cond}
+use mathlib.Core.Bool.{cond}
 use mathlib.Core.List.{List, [], _∷_}
 use lib.Dec.{eqb}
 use lib.ListN.{set, length}

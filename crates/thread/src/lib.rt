@@ -1,7 +1,7 @@
 // One thread: live registers and checkpoint, control registers, transaction; recording and handling of a failure (document 01, "The machine", "TEXASR").
 ghost use mathlib.Core.Path.{_≡_};
-ghost use Prim.Native.Nat.{_<_, _≤_, _^_};
-ghost use Rattle.thread.specs.Texasr.{fs, rot, tl, packed};
+ghost use Prim.Native.Nat.{_<_, _^_};
+ghost use Rattle.thread.specs.Texasr.{rot, tl, packed};
 ghost use Rattle.thread.specs.Thread.{in-state, take-checkpoint, restore, failed, suspended, noted, recording, handling};
 use transaction::Transaction;
 

@@ -1,7 +1,7 @@
 -- What a transaction holds: read set, write set and log (document 01, "The machine"), and what loads, stores, commit and discard do to it
 -- ("Loads, stores and conflicts", (a) and (d); tend.).
 use Prim.Native.Nat.{ℕ, zero, suc, _+_, _/_}
-use mathlib.Core.Bool.{Bool, true, false, not, cond, _&&_, _||_}
+use mathlib.Core.Bool.{Bool, false, not, cond, _&&_, _||_}
 use mathlib.Core.List.{List}
 use lib.ListN.{getD, set, replicate}
 use lib.Dec.{eqb, leb}
