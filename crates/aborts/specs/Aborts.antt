@@ -1,18 +1,15 @@
 -- tabort., tabortwc. and tabortdc. (document 01, "Events" 3 to 5). Clauses by state first.
-use Prim.Native.Nat.{ℕ, _%_, _^_}
+use Prim.Native.Nat.{ℕ}
 use mathlib.Core.Bool.{Bool, cond}
 use Rattle.thread.specs.Texasr.{cause-abort}
 use Rattle.thread.specs.declared.State.{State}
 use Rattle.thread.specs.declared.State.the-variants.{N, T, S}
 use Rattle.thread.specs.declared.Thread.{Thread}
-use Rattle.common.specs.Common.{cr0-from-state, cr0-only, gpr, gpr-or-0, fails, dooms}
+use Rattle.common.specs.Common.{cr0-from-state, cr0-only, gpr, fails, dooms}
 use Rattle.common.specs.declared.Did.{Did}
 use Rattle.aborts.specs.Compare.{holds-in-words, holds-in-doublewords}
 
 -- 3. tabort. (RA): the cause by RA, recorded in T and S
-abbrev pub abort-cause : Thread → ℕ → ℕ
-abort-cause t ra = cause-abort (gpr-or-0 t ra % 2 ^ 8)
-
 unfoldable pub tabort : State → Thread → ℕ → Did
 tabort N t cause = cr0-only t
 tabort T t cause = fails t cause

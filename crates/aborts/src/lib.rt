@@ -3,19 +3,11 @@ pub mod compare;
 
 ghost use mathlib.Core.Path.{_≡_};
 ghost use Prim.Native.Nat.{_<_, _^_};
-ghost use Rattle.aborts.specs.Aborts.{abort-cause, tabort, tabort-if, tabortwc, tabortdc};
+ghost use Rattle.common.specs.Common.{abort-cause};
+ghost use Rattle.aborts.specs.Aborts.{tabort, tabort-if, tabortwc, tabortdc};
 use common::Did;
 use thread::State;
 use thread::Thread;
-
-// The cause by RA: the low byte of the register as code, and bit 31.
-pub fn abort_cause(t: Thread, ra: u8) -> u64
-    requires { ⌜ ra < 32 ⌝ }
-    ensures { λ r. ⌜ r ≡ abort-cause t ra ⌝ }
-    ensures { λ r. ⌜ r < 2 ^ 32 ⌝ }
-{
-    common::gpr_or_0(t, ra) % 256 * 0x100_0000 + 1
-}
 
 // A cause recorded in T and S.
 fn abort(t: Thread, cause: u64) -> Did
@@ -39,7 +31,7 @@ pub fn tabort(t: Thread, ra: u8) -> Did
     requires { ⌜ ra < 32 ⌝ }
     ensures { λ d. ⌜ d ≡ tabort (t .control .state) t (abort-cause t ra) ⌝ }
 {
-    abort(t, abort_cause(t, ra))
+    abort(t, common::abort_cause(t, ra))
 }
 
 // A conditional abort, whose comparison holds or not.

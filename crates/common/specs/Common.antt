@@ -4,6 +4,7 @@ use mathlib.Core.Bool.{true, cond}
 use mathlib.Core.List.{List}
 use lib.ListN.{getD, set}
 use lib.Dec.{eqb}
+use Rattle.thread.specs.Texasr.{cause-abort}
 use Rattle.thread.specs.Thread.{with-live, with-cr0, with-control, with-nia, with-texasr, failed, recording, handling}
 use Rattle.thread.specs.declared.State.{State}
 use Rattle.thread.specs.declared.State.the-variants.{N, T, S}
@@ -64,6 +65,10 @@ put-gpr t r v = with-live t (record { gpr = set (t .live .gpr) r v; cr = t .live
 -- register RA, or 0 where RA = 0 names none
 abbrev pub gpr-or-0 : Thread → ℕ → ℕ
 gpr-or-0 t ra = cond (eqb ra 0) 0 (gpr t ra)
+
+-- the cause of an abort or reclaim: its code is the low byte of RA
+abbrev pub abort-cause : Thread → ℕ → ℕ
+abort-cause t ra = cause-abort (gpr-or-0 t ra % 2 ^ 8)
 
 -- a cause recorded for the thread's own instruction
 abbrev pub own-recording : Thread → ℕ → Thread

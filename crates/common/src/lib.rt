@@ -1,7 +1,7 @@
 // What the events share: the next address, CR0 from state, registers, the thread's own failure.
 ghost use mathlib.Core.Path.{_≡_};
 ghost use Prim.Native.Nat.{_<_, _^_};
-ghost use Rattle.common.specs.Common.{next, advance, passes, ts-field, cr0-from-state, gpr, gpr-or-0, put-gpr, own-recording, fails, dooms, cr0-only, leveled};
+ghost use Rattle.common.specs.Common.{next, advance, passes, ts-field, cr0-from-state, gpr, gpr-or-0, put-gpr, abort-cause, own-recording, fails, dooms, cr0-only, leveled};
 use thread::State;
 use thread::Thread;
 
@@ -110,6 +110,15 @@ pub fn put_gpr(t: Thread, r: u8, v: u64) -> Thread
     let mut u = t;
     u.live = live;
     u
+}
+
+// The cause by RA: the low byte of the register as code, and bit 31.
+pub fn abort_cause(t: Thread, ra: u8) -> u64
+    requires { ⌜ ra < 32 ⌝ }
+    ensures { λ r. ⌜ r ≡ abort-cause t ra ⌝ }
+    ensures { λ r. ⌜ r < 2 ^ 32 ⌝ }
+{
+    gpr_or_0(t, ra) % 256 * 0x100_0000 + 1
 }
 
 // A cause recorded for the thread's own instruction.

@@ -18,9 +18,9 @@ use Rattle.event.specs.Event.{kind, operands-right}
 use Rattle.event.specs.declared.Event.{Event}
 use Rattle.event.specs.declared.Event.the-variants.{Tbegin, Tend, Tabort, Tabortwc, Tabortdc, Tsr, Tcheck, Treclaim, Trechkpt, Mtspr, Mfspr, Ld, Std, Addi, Disallowed, Interrupt, Host}
 use Rattle.event.proofs.Laws.{access-in}
-use Rattle.common.specs.Common.{Ran, passes, cr0-from-state, put-gpr, own-recording, fails, dooms, cr0-only, leveled}
+use Rattle.common.specs.Common.{Ran, passes, cr0-from-state, put-gpr, own-recording, fails, dooms, cr0-only, leveled, abort-cause}
 use Rattle.access.specs.Access.{tracked, ld-overflows, std-overflows, takes, joins, ld, logs, meets-own, std}
-use Rattle.aborts.specs.Aborts.{abort-cause, tabort, tabort-if}
+use Rattle.aborts.specs.Aborts.{tabort, tabort-if}
 use Rattle.begins.specs.Begins.{begins, tbegin, commits, tend, moves, tsuspend, tresume, tsr}
 use Rattle.reclaims.specs.Reclaims.{check-field, tcheck, treclaim, trechkpt}
 use Rattle.special.specs.Special.{special, put-spr, mtspr, mfspr}

@@ -5,9 +5,9 @@ use mathlib.Core.List.{List}
 use Rattle.thread.specs.declared.Thread.{Thread}
 use Rattle.event.specs.declared.Event.{Event}
 use Rattle.event.specs.declared.Event.the-variants.{Tbegin, Tend, Tabort, Tabortwc, Tabortdc, Tsr, Tcheck, Treclaim, Trechkpt, Mtspr, Mfspr, Ld, Std, Addi, Disallowed, Interrupt, Host}
-use Rattle.common.specs.Common.{Ran, ran, gpr}
+use Rattle.common.specs.Common.{Ran, ran, gpr, abort-cause}
 use Rattle.begins.specs.Begins.{tbegin, tend, tsr}
-use Rattle.aborts.specs.Aborts.{abort-cause, tabort, tabortwc, tabortdc}
+use Rattle.aborts.specs.Aborts.{tabort, tabortwc, tabortdc}
 use Rattle.reclaims.specs.Reclaims.{tcheck, treclaim, trechkpt}
 use Rattle.special.specs.Special.{mtspr, mfspr}
 use Rattle.access.specs.Access.{ld-overflows, std-overflows, ld, std}

@@ -65,7 +65,7 @@ pub fn treclaim(t: Thread, ra: u8) -> Did
 {
     let k = t.control;
     let s = k.state;
-    let u = common::own_recording(t, aborts::abort_cause(t, ra));
+    let u = common::own_recording(t, common::abort_cause(t, ra));
     let mut v = reclaims(u);
     v.cr0 = common::ts_field(s);
     common::passes(v)

@@ -14,10 +14,10 @@ use Rattle.thread.specs.Thread.{failed}
 use Rattle.thread.specs.declared.State.{State}
 use Rattle.thread.specs.declared.State.the-variants.{N, T, S}
 use Rattle.thread.specs.declared.Thread.{Thread}
-use Rattle.common.specs.Common.{Ran, cr0-from-state, gpr, fails, dooms}
+use Rattle.common.specs.Common.{Ran, cr0-from-state, gpr, fails, dooms, abort-cause}
 use Rattle.aborts.specs.Compare.{holds-in-words, holds-in-doublewords}
 use Rattle.access.specs.Access.{ld-overflows, std-overflows, ld, logs, meets-own, std}
-use Rattle.aborts.specs.Aborts.{abort-cause, tabort, tabort-if}
+use Rattle.aborts.specs.Aborts.{tabort, tabort-if}
 use Rattle.begins.specs.Begins.{tbegin, commits, tend, tsuspend, tresume, tsr}
 use Rattle.reclaims.specs.Reclaims.{tcheck, treclaim, trechkpt}
 use Rattle.special.specs.Special.{mtspr, mfspr}

@@ -26,9 +26,9 @@ use Rattle.thread.specs.declared.Thread.{Thread}
 use Rattle.event.specs.Event.{kind}
 use Rattle.event.specs.declared.Event.{Event}
 use Rattle.event.specs.declared.Event.the-variants.{Tbegin, Tend, Tabort, Tabortwc, Tabortdc, Tsr, Tcheck, Treclaim, Trechkpt, Mtspr, Mfspr, Ld, Std, Addi, Disallowed, Interrupt, Host}
-use Rattle.common.specs.Common.{Ran, did, ran, passes, gpr, fails}
+use Rattle.common.specs.Common.{Ran, did, ran, passes, gpr, fails, abort-cause}
 use Rattle.access.specs.Access.{tracked, ld-overflows, std-overflows, takes, ld, logs, std}
-use Rattle.aborts.specs.Aborts.{abort-cause, tabort}
+use Rattle.aborts.specs.Aborts.{tabort}
 use Rattle.begins.specs.Begins.{tbegin, commits, tend, tresume, tsr}
 use Rattle.reclaims.specs.Reclaims.{tcheck, treclaim}
 use Rattle.special.specs.Special.{mfspr}

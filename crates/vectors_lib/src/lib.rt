@@ -2,26 +2,16 @@
 //
 // A line is `RULE: ITEM ITEM ..`. The rule is any text without a colon. An item is 16 bytes in 32 hexadecimal digits. One that begins
 // with e3 is a record of the tape: it is read, and its thread steps its event by the public entry. Any other item is a poke, which
-// sets up the machine before or between events (module `poke` has the list). Each line starts on the fresh machine with memory all
+// sets up the machine before or between events (crate `poke` has the list). Each line starts on the fresh machine with memory all
 // zero, of which 64 doublewords are lent to the step.
 //
 // For each line a line is written: the rule, a colon, the answers of its records in decimal, and then what is not as in the fresh
-// machine, as NAME=HEX in a fixed order (module `show`). A wrong line so names its rule and shows all that the machine holds.
-mod poke;
-mod show;
-mod text;
-
-use machine::Machine;
+// machine, as NAME=HEX in a fixed order (crate `show`). A wrong line so names its rule and shows all that the machine holds.
+use poke::World;
 use tape::Read;
 
 // The doublewords that can be lent: a line more than a memory may have.
 pub const MEMORY: usize = 4112;
-
-// A machine, and how many doublewords of the memory beside it are lent.
-pub struct World {
-    pub machine: Machine,
-    pub lent: usize,
-}
 
 // An answer's number.
 fn answer(n: u8) {
@@ -48,7 +38,7 @@ fn record(w: World, mem: &mut [u64], b: [u8; 16]) -> World {
 }
 
 fn item(w: World, mem: &mut [u64], s: &[u8]) -> World {
-    let b = text::bytes(s);
+    let b = poke::text::bytes(s);
     if b[0] == tape::FIRST_BYTE {
         return record(w, mem, b);
     }
@@ -76,7 +66,7 @@ fn items(s: &[u8]) {
 }
 
 fn line(s: &[u8]) {
-    let colon = text::find(s, 0, b':');
+    let colon = poke::text::find(s, 0, b':');
     io::write_all(1, &s[..colon]);
     io::write_all(1, b":");
     items(&s[colon..]);
@@ -87,7 +77,7 @@ fn line(s: &[u8]) {
 pub fn lines(s: &[u8]) {
     let mut at = 0;
     while at < s.len() {
-        let end = text::find(s, at, b'\n');
+        let end = poke::text::find(s, at, b'\n');
         line(&s[at..end]);
         at = end + 1;
     }

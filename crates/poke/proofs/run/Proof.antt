@@ -1,8 +1,8 @@
--- `vectors_lib::poke::run` is safe and ends.
+-- `poke::run` is safe and ends.
 use Prim.Native.Nat.{_≤_, _-_}
 use borrow.Author.Needs.{needs}
-use Rattle.vectors_lib.proofs.poke.run.Statement.{statement}
-use Rattle.vectors_lib.proofs.poke.run.Tie as tie
+use Rattle.poke.proofs.run.Statement.{statement}
+use Rattle.poke.proofs.run.Tie as tie
 
 abbrev Inv-loop : tie.InvT-loop
 Inv-loop n from v y₀ i₀ y i = i ≤ n

@@ -1,8 +1,8 @@
--- `vectors_lib::show::machine` is safe and ends.
+-- `show::machine` is safe and ends.
 use Prim.Native.Nat.{_≤_, _-_}
 use borrow.Author.Needs.{needs}
-use Rattle.vectors_lib.proofs.show.machine.Statement.{statement}
-use Rattle.vectors_lib.proofs.show.machine.Tie as tie
+use Rattle.show.proofs.machine.Statement.{statement}
+use Rattle.show.proofs.machine.Tie as tie
 
 abbrev Inv-loop : tie.InvT-loop
 Inv-loop m w₀ w = w ≤ 4

@@ -1,8 +1,8 @@
--- `vectors_lib::text::number` is safe and ends.
+-- `poke::text::number` is safe and ends.
 use Prim.Native.Nat.{_≤_, _-_}
 use borrow.Author.Needs.{needs}
-use Rattle.vectors_lib.proofs.text.number.Statement.{statement}
-use Rattle.vectors_lib.proofs.text.number.Tie as tie
+use Rattle.poke.proofs.text.number.Statement.{statement}
+use Rattle.poke.proofs.text.number.Tie as tie
 
 abbrev Inv-loop : tie.InvT-loop
 Inv-loop from to b v₀ i₀ v i = to ≤ 16

@@ -1,10 +1,10 @@
--- `vectors_lib::text::bytes` is safe and ends.
+-- `poke::text::bytes` is safe and ends.
 use mathlib.Core.Path.{_≡_}
 use Prim.Native.Nat.{_≤_, _-_}
 use lib.ListN.{length}
 use borrow.Author.Needs.{needs}
-use Rattle.vectors_lib.proofs.text.bytes.Statement.{statement}
-use Rattle.vectors_lib.proofs.text.bytes.Tie as tie
+use Rattle.poke.proofs.text.bytes.Statement.{statement}
+use Rattle.poke.proofs.text.bytes.Tie as tie
 
 abbrev Inv-loop : tie.InvT-loop
 Inv-loop s b₀ i₀ b i = (i ≤ 16) × (16 ≡ length b)

@@ -1,14 +1,14 @@
--- `vectors_lib::show::gprs` is safe and ends.
+-- `show::words` is safe and ends.
 use Prim.Native.Nat.{_≤_, _-_}
 use borrow.Author.Needs.{needs}
-use Rattle.vectors_lib.proofs.show.gprs.Statement.{statement}
-use Rattle.vectors_lib.proofs.show.gprs.Tie as tie
+use Rattle.show.proofs.words.Statement.{statement}
+use Rattle.show.proofs.words.Tie as tie
 
 abbrev Inv-loop : tie.InvT-loop
-Inv-loop w name r i₀ i = i ≤ 32
+Inv-loop w name s i₀ i = i ≤ 4
 
 abbrev μ-loop : tie.MeasureT-loop
-μ-loop w name r i₀ i = 32 - i
+μ-loop w name s i₀ i = 4 - i
 
 loop-holds : tie.Need-loop-holds Inv-loop μ-loop
 loop-holds c = search needs
@@ -34,8 +34,8 @@ loop-again c = search needs
 returns : tie.Need-returns Inv-loop μ-loop
 returns c = search needs
 
-pub gprs-spec : {M : Type 1} → statement M
-gprs-spec =
+pub words-spec : {M : Type 1} → statement M
+words-spec =
     tie.close
     (tie.spec
     Inv-loop

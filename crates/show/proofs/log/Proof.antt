@@ -1,10 +1,10 @@
--- `vectors_lib::show::log` is safe and ends.
+-- `show::log` is safe and ends.
 use mathlib.Core.Path.{_≡_}
 use Prim.Native.Nat.{_≤_, _-_}
 use lib.ListN.{length}
 use borrow.Author.Needs.{needs}
-use Rattle.vectors_lib.proofs.show.log.Statement.{statement}
-use Rattle.vectors_lib.proofs.show.log.Tie as tie
+use Rattle.show.proofs.log.Statement.{statement}
+use Rattle.show.proofs.log.Tie as tie
 
 abbrev Inv-loop : tie.InvT-loop
 Inv-loop w x i₀ t6 t7 i = (i ≤ 64) × ((length t6 ≡ 5) × (length t7 ≡ 5))

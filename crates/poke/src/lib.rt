@@ -10,8 +10,8 @@
 //     4 checkpoint's register  11 TDOOMED                          18 log's index at a place
 //     5 live CR field          12 TFHAR                            19 log's value at a place
 //     6 checkpoint's CR field  13 TFIAR                            20 a log of as many places as byte 3 says, from an index on, each with the value
-use crate::World;
-use crate::text;
+pub mod text;
+
 use lines::LineSet;
 use machine::Machine;
 use thread::Control;
@@ -20,6 +20,12 @@ use thread::State;
 use thread::Thread;
 use transaction::Entry;
 use transaction::Transaction;
+
+// A machine, and how many doublewords of the memory beside it are lent.
+pub struct World {
+    pub machine: Machine,
+    pub lent: usize,
+}
 
 fn state(v: u64) -> State {
     match v {

@@ -1,10 +1,10 @@
--- `vectors_lib::show::memory` is safe and ends.
+-- `show::memory` is safe and ends.
 use mathlib.Core.Path.{_≡_}
 use Prim.Native.Nat.{_≤_, _-_}
 use lib.ListN.{length}
 use borrow.Author.Needs.{needs}
-use Rattle.vectors_lib.proofs.show.memory.Statement.{statement}
-use Rattle.vectors_lib.proofs.show.memory.Tie as tie
+use Rattle.show.proofs.memory.Statement.{statement}
+use Rattle.show.proofs.memory.Tie as tie
 
 abbrev Inv-loop : tie.InvT-loop
 Inv-loop mem i₀ i-end i = (i ≤ i-end) × (i-end ≡ length mem)

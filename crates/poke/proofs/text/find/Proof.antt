@@ -1,9 +1,9 @@
--- `vectors_lib::text::find` is safe and ends.
+-- `poke::text::find` is safe and ends.
 use Prim.Native.Nat.{_≤_, _-_}
 use lib.ListN.{length}
 use borrow.Author.Needs.{needs}
-use Rattle.vectors_lib.proofs.text.find.Statement.{statement}
-use Rattle.vectors_lib.proofs.text.find.Tie as tie
+use Rattle.poke.proofs.text.find.Statement.{statement}
+use Rattle.poke.proofs.text.find.Tie as tie
 
 abbrev Inv-loop : tie.InvT-loop
 Inv-loop s from b i₀ i = (from ≤ i) × (i ≤ length s)

@@ -1,23 +1,26 @@
--- `vectors_lib::show::words` is safe and ends.
+-- `show::crs` is safe and ends.
 use Prim.Native.Nat.{_≤_, _-_}
 use borrow.Author.Needs.{needs}
-use Rattle.vectors_lib.proofs.show.words.Statement.{statement}
-use Rattle.vectors_lib.proofs.show.words.Tie as tie
+use Rattle.show.proofs.crs.Statement.{statement}
+use Rattle.show.proofs.crs.Tie as tie
 
 abbrev Inv-loop : tie.InvT-loop
-Inv-loop w name s i₀ i = i ≤ 4
+Inv-loop w name r i₀ i = i ≤ 7
 
 abbrev μ-loop : tie.MeasureT-loop
-μ-loop w name s i₀ i = 4 - i
+μ-loop w name r i₀ i = 7 - i
 
 loop-holds : tie.Need-loop-holds Inv-loop μ-loop
 loop-holds c = search needs
 
-mul-place : tie.Need-mul-place Inv-loop μ-loop
-mul-place c = search needs
+add-place : tie.Need-add-place Inv-loop μ-loop
+add-place c = search needs
 
-element-copy-out-place : tie.Need-element-copy-out-place Inv-loop μ-loop
-element-copy-out-place c = search needs
+element-copy-out-wide : tie.Need-element-copy-out-wide Inv-loop μ-loop
+element-copy-out-wide c = search needs
+
+wide-requires : tie.Need-wide-requires Inv-loop μ-loop
+wide-requires c κs = search needs
 
 place-requires : tie.Need-place-requires Inv-loop μ-loop
 place-requires c κs = search needs
@@ -34,15 +37,16 @@ loop-again c = search needs
 returns : tie.Need-returns Inv-loop μ-loop
 returns c = search needs
 
-pub words-spec : {M : Type 1} → statement M
-words-spec =
+pub crs-spec : {M : Type 1} → statement M
+crs-spec =
     tie.close
     (tie.spec
     Inv-loop
     μ-loop
     loop-holds
-    mul-place
-    element-copy-out-place
+    add-place
+    element-copy-out-wide
+    wide-requires
     place-requires
     add-i
     loop-less
