@@ -1,4 +1,4 @@
--- What is promised of what a host hands in; proved in proofs/Promises.antt. The crossing's own promises: `crossing/specs/Promises`.
+-- What is promised of what a host hands in; proved in proofs/Promises.antt. The crossing's own promises: Crosses.antt.
 use mathlib.Core.Path.{_≡_}
 use mathlib.Core.Bool.{true, false}
 use mathlib.Core.List.{List}

@@ -1,11 +1,11 @@
--- What is promised of the crossing: nothing is lost. Proved in proofs/Promises.antt.
+-- What is promised of the crossing: nothing is lost. Proved in proofs/Crosses.antt.
 use mathlib.Core.Path.{_≡_}
 use mathlib.Core.Bool.{true}
 use lib.ListN.{length}
 use Rattle.base.specs.Limits.{most-threads}
 use Rattle.machine.specs.declared.Machine.{Machine}
 use Rattle.crossing.specs.Crossing.{right, machine-of, raw-machine}
 use Rattle.crossing.specs.declared.RawMachine.{RawMachine}
 
 -- a machine that crosses and comes back is the same
 abbrev pub Forth : Type 0

@@ -15,10 +15,10 @@ use Rattle.thread.specs.declared.State.the-variants.{N, T, S}
 use Rattle.thread.specs.declared.Control.{Control}
 use Rattle.thread.specs.declared.Thread.{Thread}
 use Rattle.machine.specs.Machine.{thread, no-thread}
 use Rattle.crossing.specs.Crossing.{state-of, state-number, control-right, right, control-of, raw-control, thread-of, raw-thread, machine-of, raw-machine, raw-at, no-raw-thread}
-use Rattle.crossing.specs.Promises.{Forth, ForthRight, Back}
+use Rattle.promises.specs.Crosses.{Forth, ForthRight, Back}
 use Rattle.crossing.specs.declared.RawControl.{RawControl}
 use Rattle.crossing.specs.declared.RawThread.{RawThread}
 
 -- ---- flags, states, control registers
 

@@ -13,9 +13,9 @@ use Rattle.run.specs.Run.{goes-on}
 use Rattle.run.proofs.Steps as steps
 use Rattle.crossing.specs.Crossing.{right, machine-of}
 use Rattle.crossing.specs.declared.RawMachine.{RawMachine}
-use Rattle.crossing.proofs.Promises.{back}
+use Rattle.promises.proofs.Crosses.{back}
 use Rattle.host.specs.Host.{number, met, outcome, event-read, step, run}
-use Rattle.host.specs.Promises.{NoMachine, StopChangesNothing, EventCrosses}
+use Rattle.promises.specs.Promises.{NoMachine, StopChangesNothing, EventCrosses}
 
 two : (m : RawMachine) (len : ℕ) → right m ≡ false → sized (machine-of m) len ≡ true → number m len ≡ 2
 unfolding number

@@ -1,0 +1,1 @@
+// What a host is promised: a machine crosses unchanged, and what is refused changes nothing. Theorems, no code.
