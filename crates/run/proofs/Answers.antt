@@ -14,16 +14,16 @@ use Rattle.thread.specs.Thread.{failed}
 use Rattle.thread.specs.declared.State.{State}
 use Rattle.thread.specs.declared.State.the-variants.{N, T, S}
 use Rattle.thread.specs.declared.Thread.{Thread}
-use Rattle.common.specs.Common.{Ran, cr0-from-state, gpr, fails, dooms, abort-cause}
-use Rattle.aborts.specs.Compare.{holds-in-words, holds-in-doublewords}
-use Rattle.access.specs.Access.{ld-overflows, std-overflows, ld, logs, meets-own, std}
-use Rattle.aborts.specs.Aborts.{tabort, tabort-if}
-use Rattle.begins.specs.Begins.{tbegin, commits, tend, tsuspend, tresume, tsr}
-use Rattle.reclaims.specs.Reclaims.{tcheck, treclaim, trechkpt}
-use Rattle.special.specs.Special.{mtspr, mfspr}
-use Rattle.plain.specs.Plain.{addi, disallowed, interrupt, host}
-use Rattle.own.specs.Events.{own}
-use Rattle.common.specs.declared.Did.{Did}
+use Rattle.power_common.specs.Common.{Ran, cr0-from-state, gpr, fails, dooms, abort-cause}
+use Rattle.power_aborts.specs.Compare.{holds-in-words, holds-in-doublewords}
+use Rattle.power_access.specs.Access.{ld-overflows, std-overflows, ld, logs, meets-own, std}
+use Rattle.power_aborts.specs.Aborts.{tabort, tabort-if}
+use Rattle.power_begins.specs.Begins.{tbegin, commits, tend, tsuspend, tresume, tsr}
+use Rattle.power_reclaims.specs.Reclaims.{tcheck, treclaim, trechkpt}
+use Rattle.power_special.specs.Special.{mtspr, mfspr}
+use Rattle.power_plain.specs.Plain.{addi, disallowed, interrupt, host}
+use Rattle.power_effect.specs.Events.{own}
+use Rattle.power_common.specs.declared.Did.{Did}
 use Rattle.run.specs.Run.{goes-on}
 
 abbrev Done : Did → Type 0

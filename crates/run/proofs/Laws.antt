@@ -13,7 +13,7 @@ use Rattle.machine.specs.declared.Machine.{Machine}
 use Rattle.tape.specs.Tape.{record-size, read}
 use Rattle.tape.specs.declared.Read.{Read}
 use Rattle.tape.specs.declared.Read.the-variants.{Record, Refused}
-use Rattle.keeping.proofs.Keeping.{keeps}
+use Rattle.laws_keeping.proofs.Keeping.{keeps}
 use Rattle.run.specs.Run.{Result, result, goes-on, record-at, counted, one, run-from}
 
 -- an event that the run goes on after is counted, another is not

@@ -12,9 +12,9 @@ use Rattle.refusal.specs.Refusal.{refusal}
 use Rattle.step.specs.Step.{outcome, perform, step}
 use Rattle.event.specs.declared.Event.{Event}
 use Rattle.event.specs.declared.Event.the-variants.{Tbegin, Tend, Tabort, Tabortwc, Tabortdc, Tsr, Tcheck, Treclaim, Trechkpt, Mtspr, Mfspr, Ld, Std, Addi, Disallowed, Interrupt, Host}
-use Rattle.common.specs.Common.{gpr}
-use Rattle.own.specs.Events.{overflows, own}
-use Rattle.access.proofs.Laws.{ld-answer, std-answer}
+use Rattle.power_common.specs.Common.{gpr}
+use Rattle.power_effect.specs.Events.{overflows, own}
+use Rattle.power_access.proofs.Laws.{ld-answer, std-answer}
 
 -- a choice between the same
 same : {A : Type 0} (b : Bool) (a : A) → cond b a a ≡ a

@@ -6,8 +6,8 @@ use lib.Dec.{eqb}
 use lib.ListN.{set, length}
 use Rattle.thread.specs.declared.Thread.{Thread}
 use Rattle.event.specs.declared.Event.{Event}
-use Rattle.common.specs.Common.{Ran}
-use Rattle.own.specs.Events.{overflows, own}
+use Rattle.power_common.specs.Common.{Ran}
+use Rattle.power_effect.specs.Events.{overflows, own}
 use Rattle.machine.specs.Machine.{thread, with-threads}
 use Rattle.refusal.specs.Refusal.{refusal}
 use Rattle.conflict.specs.Conflict.{others}

@@ -42,7 +42,7 @@ fn perform(m: Machine, mem: &mut [u64], w: usize, e: Event) -> Done
 {
     let len = mem.len();
     let t = m.threads[w];
-    let did = own::own(e, t, mem);
+    let did = power_effect::own(e, t, mem);
     let mut n = reached(e, m, w, len, did.answer);
     let u = did.thread;
     n.threads[w] = u;

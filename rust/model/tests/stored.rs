@@ -179,8 +179,8 @@ fn hold_vectors(name: &str) -> usize {
 
 #[test]
 fn vectors_agree() {
-    assert!(hold_vectors("vectors") > 300);
-    assert!(hold_vectors("vectors_more") > 250);
+    assert!(hold_vectors("test_vectors") > 300);
+    assert!(hold_vectors("test_vectors_more") > 250);
 }
 
 #[test]
@@ -193,7 +193,7 @@ fn tapes_agree() {
             .and_then(|n| n.to_str())
             .unwrap_or_default()
             .to_string();
-        if name != "naszeptan" && !name.starts_with("tape_") {
+        if name != "naszeptan" && !name.starts_with("test_tape_") {
             continue;
         }
         let given = fs::read(folder.join("stdin")).unwrap_or_default();
@@ -201,16 +201,14 @@ fn tapes_agree() {
         assert_eq!(program(&given), stored, "{name}");
         tapes += 1;
     }
-    assert_eq!(tapes, 8);
+    assert_eq!(tapes, 4);
 }
 
 #[test]
 fn tapes_for_the_reader_are_those_of_the_tests() {
     let tapes = crates().join("../tapes");
     for (tape, name) in [
-        ("nothing", "tape_nothing"),
-        ("pair", "tape_pair"),
-        ("ragged", "tape_ragged"),
+        ("pair", "test_tape_pair"),
         ("every_kind", "naszeptan"),
     ] {
         let shown = fs::read(tapes.join(format!("{tape}.tape"))).expect("the tape");

@@ -5,8 +5,8 @@ use Prim.Native.Nat.{_<_}
 use native.Mathlib.Omega.{arith}
 use lib.Dec.{eqb}
 use lib.ListN.{set, length}
-use Rattle.own.specs.Events.{overflows}
-use Rattle.common.specs.declared.Did.{Did}
+use Rattle.power_effect.specs.Events.{overflows}
+use Rattle.power_common.specs.declared.Did.{Did}
 use Rattle.machine.specs.Machine.{thread}
 use Rattle.conflict.specs.Conflict.{others}
 use Rattle.step.specs.Step.{perform}

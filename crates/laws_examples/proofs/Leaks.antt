@@ -1,0 +1,38 @@
+-- The third demand is false of each leaky variant, by computation.
+use mathlib.Core.Path.{refl}
+use mathlib.Core.Bool.{true}
+use Rattle.laws_secrecy.specs.Secrecy.{Until}
+use Rattle.laws_examples.specs.Examples.{small-memory, machine, start, ToldApart}
+use Rattle.laws_examples.specs.Leaks.{at-once, unless-same, from-log, unrestored, Leak, Caught, leak-at-once, leak-unless-same, leak-from-log, leak-unrestored, AllCaught}
+use Rattle.laws_secrecy.proofs.Corollaries.{agrees-seen}
+use Rattle.laws_examples.proofs.Examples.{computed, level-1, told-apart}
+
+-- what is told apart by events that are allowed makes the demand false
+caught : (l : Leak) → Until (l .leaky) 0 (l .shown .events) (start (l .shown) 0) → ToldApart (l .leaky) (l .shown) → Caught l
+caught l u a =
+    let x = l .shown in
+    record {
+      until = u;
+      apart = a;
+      caught = λ d. a .differ (agrees-seen (l .leaky) 0 (x .events) _ _ (d 0 (machine x 0) (machine x 1) small-memory (a .right 0) (a .right 1) (a .alike) (x .events) u));
+    }
+
+-- the numbers: the place at which what is seen differs, the answers before the memory
+at-once-caught : Caught leak-at-once
+unfolding computed at-once Until
+at-once-caught = caught leak-at-once (λ o. (refl, tt)) (told-apart at-once (leak-at-once .shown) 17 (level-1 true) refl)
+
+unless-same-caught : Caught leak-unless-same
+unfolding computed unless-same Until
+unless-same-caught = caught leak-unless-same (λ o. (refl, λ p. (refl, tt))) (told-apart unless-same (leak-unless-same .shown) 1 (λ n. refl) refl)
+
+from-log-caught : Caught leak-from-log
+unfolding computed from-log Until
+from-log-caught = caught leak-from-log (λ o. (refl, λ p. (refl, tt))) (told-apart from-log (leak-from-log .shown) 18 (level-1 true) refl)
+
+unrestored-caught : Caught leak-unrestored
+unfolding computed unrestored Until
+unrestored-caught = caught leak-unrestored (λ o. (refl, λ p. (refl, tt))) (told-apart unrestored (leak-unrestored .shown) 18 (level-1 true) refl)
+
+pub all-caught : AllCaught
+all-caught = (at-once-caught, (unless-same-caught, (from-log-caught, (unrestored-caught, tt))))

@@ -1,0 +1,102 @@
+-- Leaky variants of the step: the third demand is false of each, and an example shows it. Proved in proofs/Leaks.antt.
+use mathlib.Core.Bool.{Bool, true, false, cond, _&&_, _||_}
+use mathlib.Core.List.{List, [], _∷_}
+use Prim.Native.Nat.{ℕ}
+use lib.Dec.{eqb}
+use lib.ListN.{length, getD, set}
+use Rattle.base.specs.Below.{all-below}
+use Rattle.transaction.specs.Transaction as transaction
+use Rattle.thread.specs.Thread.{with-control, in-state}
+use Rattle.thread.specs.declared.State.the-variants.{N}
+use Rattle.thread.specs.declared.Thread.{Thread}
+use Rattle.event.specs.Event.{kind}
+use Rattle.event.specs.declared.Event.{Event}
+use Rattle.event.specs.declared.Event.the-variants.{Tabort, Ld, Std, Disallowed}
+use Rattle.power_common.specs.Common.{ran, gpr, put-gpr}
+use Rattle.power_effect.specs.Events as events
+use Rattle.machine.specs.Machine.{thread, with-threads, fresh-thread}
+use Rattle.refusal.specs.Refusal.{refusal}
+use Rattle.conflict.specs.Conflict.{others}
+use Rattle.step.specs.Step.{outcome, joined, perform, Fed, from}
+use Rattle.laws_secrecy.specs.Secrecy.{Stepping, Until, SecretOf}
+use Rattle.laws_examples.specs.Examples.{open-thread, Example, start, ToldApart, Each}
+
+-- the step, with another way to perform what is not refused
+abbrev pub performing : Stepping → Stepping
+performing p m mem v e = cond (eqb (refusal m (length mem) v e) 0) (p m mem v e) (outcome (refusal m (length mem) v e) m mem)
+
+-- the memory that an event leaves if its thread is in N: a store is made
+abbrev pub plainly : Event → Thread → List ℕ → List ℕ
+plainly e t mem = events.own e (with-control t (in-state (t .control) N false)) mem .memory
+
+-- 1. a store in T goes to memory at once, besides the log
+unfoldable pub at-once : Stepping
+at-once =
+    performing (λ m mem v e.
+    let o = perform m mem v e in
+    outcome (o .done .answer) (o .done .machine) (plainly e (thread (m .threads) v) (o .memory)))
+
+-- 2. a store that would leave memory as it is strikes no thread
+abbrev pub same-values : List ℕ → List ℕ → Bool
+same-values xs ys = all-below (λ i. eqb (getD xs i 0) (getD ys i 0)) (length xs)
+
+unfoldable pub unless-same : Stepping
+unless-same =
+    performing (λ m mem v e.
+    let t = thread (m .threads) v in
+    let spared = events.overflows e t || eqb (kind e) 13 && same-values mem (plainly e t mem) in
+    joined m (cond spared (m .threads) (others e (m .threads) v)) v (events.own e t mem))
+
+-- 3. a load takes the value that thread 0 has in its log
+unfoldable pub from-log : Stepping
+from-log =
+    performing (λ m mem v e.
+    let t = thread (m .threads) v in
+    let lent = transaction.commit (thread (m .threads) 0 .transaction) mem in
+    joined m (cond (events.overflows e t) (m .threads) (others e (m .threads) v)) v (ran (events.own e t lent .did) (events.own e t mem .memory)))
+
+-- 4. the handling of a thread's own failure, which answers 20, leaves register 1
+abbrev pub leaving : ℕ → Thread → Thread → Thread
+leaving answer t u = cond (eqb answer 20) (put-gpr u 1 (gpr t 1)) u
+
+unfoldable pub unrestored : Stepping
+unrestored =
+    performing (λ m mem v e.
+    let o = perform m mem v e in
+    let ts = o .done .machine .threads in
+    outcome (o .done .answer) (with-threads m (set ts v (leaving (o .done .answer) (thread (m .threads) v) (thread ts v)))) (o .memory))
+
+-- a leaky step, and what shows it
+pub record Leak : Type 0 where
+  pub leaky : Stepping
+  pub shown : Example
+
+-- the events are allowed, they tell the example's machines apart, and so the demand is false
+pub record Caught (l : Leak) : Type 0 where
+  pub until : Until (l .leaky) 0 (l .shown .events) (start (l .shown) 0)
+  pub apart : ToldApart (l .leaky) (l .shown)
+  pub caught : SecretOf (l .leaky) → ⊥
+
+abbrev pub leak : Stepping → Thread → List Fed → Leak
+leak s u fs = record { leaky = s; shown = record { level = 1; pr = true; other = u; events = fs } }
+
+abbrev pub leak-at-once : Leak
+leak-at-once = leak at-once fresh-thread (from 0 (Std 1 16) ∷ [])
+
+-- thread 1 has read the line that thread 0 stores to; its tabort. is answered by 20 in T, by 0 in N
+abbrev pub leak-unless-same : Leak
+leak-unless-same = leak unless-same (open-thread 1 true 0 (transaction.join transaction.empty 16)) (from 0 (Std 1 16) ∷ from 1 (Tabort 0) ∷ [])
+
+-- thread 1 loads the doubleword that thread 0 has stored to, and stores what it has loaded
+abbrev pub leak-from-log : Leak
+leak-from-log = leak from-log fresh-thread (from 1 (Ld 3 0) ∷ from 1 (Std 3 16) ∷ [])
+
+-- thread 0 fails, and stores what is left in register 1
+abbrev pub leak-unrestored : Leak
+leak-unrestored = leak unrestored fresh-thread (from 0 Disallowed ∷ from 0 (Std 1 16) ∷ [])
+
+abbrev pub leaks : List Leak
+leaks = leak-at-once ∷ leak-unless-same ∷ leak-from-log ∷ leak-unrestored ∷ []
+
+abbrev pub AllCaught : Type 0
+AllCaught = Each Caught leaks

@@ -1,0 +1,48 @@
+-- What is refused changes nothing; every event has fields.
+use mathlib.Core.Path.{_≡_, refl}
+use mathlib.Core.Bool.{Bool, true, false}
+use mathlib.Core.List.{List}
+use Prim.Native.Nat.{ℕ}
+use lib.ListN.{length}
+use Rattle.base.specs.Limits.{most-threads}
+use Rattle.machine.specs.Valid.{sized}
+use Rattle.tape.specs.declared.Read.{Read}
+use Rattle.tape.specs.declared.Read.the-variants.{Record, Refused}
+use Rattle.laws_round.proofs.Round.{written}
+use Rattle.run.specs.Run.{goes-on}
+use Rattle.run.proofs.Steps as steps
+use Rattle.crossing.specs.Crossing.{right, machine-of}
+use Rattle.crossing.specs.declared.RawMachine.{RawMachine}
+use Rattle.laws_host.proofs.Crosses.{back}
+use Rattle.host.specs.Host.{number, met, outcome, event-read, step, run}
+use Rattle.laws_host.specs.Promises.{NoMachine, StopChangesNothing, EventCrosses}
+
+two : (m : RawMachine) (len : ℕ) → right m ≡ false → sized (machine-of m) len ≡ true → number m len ≡ 2
+unfolding number
+two m len broken fits = simp (broken, fits)
+
+no-machine-met : (m : RawMachine) (mem : List ℕ) → right m ≡ false → number m (length mem) ≡ 2 → (r : Read) → met r m mem ≡ outcome 2 m mem
+no-machine-met m mem broken n (Refused k) = simp n
+no-machine-met m mem broken n (Record w e) = simp (broken, n)
+
+pub no-machine : NoMachine
+unfolding step run
+no-machine m mem broken fits =
+    let n = two m (length mem) broken fits in
+    ((λ f. no-machine-met m mem broken n (event-read f)), (λ bytes. simp (broken, n)))
+
+-- by whether the bits are a machine's
+met-stops : (m : RawMachine) (mem : List ℕ) (r : Read) (b : Bool) → right m ≡ b → length (m .threads) ≡ most-threads
+    → goes-on (met r m mem .done .answer) ≡ false → (met r m mem .done .machine ≡ m) × (met r m mem .memory ≡ mem)
+met-stops m mem (Refused k) b p four h = (refl, refl)
+met-stops m mem (Record w e) false p four h = (simp p, simp p)
+met-stops m mem (Record w e) true p four h =
+    let s = steps.stop-changes-nothing (machine-of m) mem w e (rw p at h) in
+    (simp (p, s .0, back m four p), simp (p, s .1))
+
+pub stop-changes-nothing : StopChangesNothing
+unfolding step
+stop-changes-nothing m mem f four h = met-stops m mem (event-read f) (right m) refl four h
+
+pub event-crosses : EventCrosses
+event-crosses = written

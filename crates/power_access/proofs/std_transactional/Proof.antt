@@ -1,0 +1,69 @@
+-- `power_access::std_transactional` meets its contract.
+use Rattle.power_access.specs.Access.{logs, std-overflows}
+use mathlib.Core.Path.{_≡_, sym, ap, _∙_}
+use Rattle.transaction.specs.Transaction.{lookup, full}
+use borrow.Author.Needs.{needs}
+use Rattle.power_access.proofs.std_transactional.Statement.{statement}
+use Rattle.power_access.proofs.std_transactional.Tie as tie
+
+-- whether the log is full for the doubleword
+filled : (c : tie.After-full) → full (c .before .before .before .before .before .args .t .transaction) (lookup (c .before .before .before .before .before .args .t .transaction) (c .before .before .before .before .before .args .index)) ≡ c .full .result
+filled c = ap (full _) (sym (c .before .lookup .ensures)) ∙ sym (c .full .ensures)
+
+crowded-requires : tie.Need-crowded-requires
+crowded-requires c κs = search needs
+
+fails-requires : tie.Need-fails-requires
+fails-requires c κs = search needs
+
+returns : tie.Need-returns
+unfolding logs std-overflows
+returns c = simp (c .fails .ensures, sym (c .before .before .crowded .ensures) ∙ c .before .if1 .taken)
+
+lookup-requires : tie.Need-lookup-requires
+lookup-requires c κs = search needs
+
+full-requires : tie.Need-full-requires
+full-requires c κs = search needs
+
+fails-requires-2 : tie.Need-fails-requires-2
+fails-requires-2 c κs = search needs
+
+returns-2 : tie.Need-returns-2
+unfolding logs std-overflows
+returns-2 c =
+    let f = c .before .before in
+    let l = f .before in
+    let k = l .before .before in
+    simp (c .fails2 .ensures, sym (k .crowded .ensures) ∙ l .before .if1 .left, filled f ∙ c .before .if2 .taken)
+
+store-at-requires : tie.Need-store-at-requires
+store-at-requires c κs =
+    let f = c .before in
+    (search needs, (search needs, (f .before .lookup .ensures, sym (f .full .ensures) ∙ c .if2 .left)))
+
+passes-requires : tie.Need-passes-requires
+passes-requires c κs = search needs
+
+returns-3 : tie.Need-returns-3
+unfolding logs std-overflows
+returns-3 c =
+    let f = c .before .before .before in
+    let l = f .before in
+    let k = l .before .before in
+    simp (c .passes .ensures, c .before .store-at .ensures, sym (k .crowded .ensures) ∙ l .before .if1 .left, filled f ∙ c .before .before .if2 .left, l .lookup .ensures)
+
+pub std-transactional-spec : {M : Type 1} → statement M
+std-transactional-spec =
+    tie.close
+    (tie.spec
+    crowded-requires
+    fails-requires
+    returns
+    lookup-requires
+    full-requires
+    fails-requires-2
+    returns-2
+    store-at-requires
+    passes-requires
+    returns-3)

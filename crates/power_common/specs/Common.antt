@@ -1,0 +1,83 @@
+-- What the events on one thread share (document 01, "Events"): the next address, CR0 from state, the thread's own failure.
+use Prim.Native.Nat.{ℕ, _+_, _*_, _%_, _^_}
+use mathlib.Core.Bool.{true, cond}
+use mathlib.Core.List.{List}
+use lib.ListN.{getD, set}
+use lib.Dec.{eqb}
+use Rattle.thread.specs.Texasr.{cause-abort}
+use Rattle.thread.specs.Thread.{with-live, with-cr0, with-control, with-nia, with-texasr, failed, recording, handling}
+use Rattle.thread.specs.declared.State.{State}
+use Rattle.thread.specs.declared.State.the-variants.{N, T, S}
+use Rattle.thread.specs.declared.Thread.{Thread}
+use Rattle.power_common.specs.declared.Did.{Did}
+
+-- what an event leaves: its answer with the thread, and memory
+pub record Ran : Type 0 where
+  pub did : Did
+  pub memory : List ℕ
+
+abbrev pub did : ℕ → Thread → Did
+did n t = record { answer = n; thread = t }
+
+abbrev pub ran : Did → List ℕ → Ran
+ran d mem = record { did = d; memory = mem }
+
+-- the address after
+abbrev pub next : ℕ → ℕ
+next a = (a + 4) % 2 ^ 64
+
+-- afterwards NIA is CIA + 4
+abbrev pub advance : Thread → Thread
+advance t = with-control t (with-nia (t .control) (next (t .control .nia)))
+
+-- done, with nothing else
+abbrev pub passes : Thread → Did
+passes t = did 0 (advance t)
+
+-- the state as two bits
+abbrev pub ts : State → ℕ
+ts N = 0b00
+ts T = 0b10
+ts S = 0b01
+
+-- CR0 from state: 0, the two TS bits, 0
+abbrev pub ts-field : State → ℕ
+ts-field s = 2 * ts s
+
+abbrev pub cr0-from-state : Thread → Thread
+cr0-from-state t = with-cr0 t (ts-field (t .control .state))
+
+-- CR0 from state, and on to the next instruction
+abbrev pub cr0-only : Thread → Did
+cr0-only t = passes (cr0-from-state t)
+
+-- the same with TEXASR anew, for a level up or down
+abbrev pub leveled : Thread → ℕ → Did
+leveled t x = passes (cr0-from-state (with-control t (with-texasr (t .control) x)))
+
+-- general register r, and the thread with a value in it
+abbrev pub gpr : Thread → ℕ → ℕ
+gpr t r = getD (t .live .gpr) r 0
+
+abbrev pub put-gpr : Thread → ℕ → ℕ → Thread
+put-gpr t r v = with-live t (record { gpr = set (t .live .gpr) r v; cr = t .live .cr })
+
+-- register RA, or 0 where RA = 0 names none
+abbrev pub gpr-or-0 : Thread → ℕ → ℕ
+gpr-or-0 t ra = cond (eqb ra 0) 0 (gpr t ra)
+
+-- the cause of an abort or reclaim: its code is the low byte of RA
+abbrev pub abort-cause : Thread → ℕ → ℕ
+abort-cause t ra = cause-abort (gpr-or-0 t ra % 2 ^ 8)
+
+-- a cause recorded for the thread's own instruction
+abbrev pub own-recording : Thread → ℕ → Thread
+own-recording t cause = recording t cause true (t .control .nia)
+
+-- the thread's own failure in T: recorded, and handled in the same event
+unfoldable pub fails : Thread → ℕ → Did
+fails t cause = did 20 (handling (own-recording t cause))
+
+-- the thread's own failure in S: recorded, and handled at tresume; 21 only if this event recorded it
+unfoldable pub dooms : Thread → ℕ → Did
+dooms t cause = did (cond (failed (t .control)) 0 21) (advance (own-recording t cause))

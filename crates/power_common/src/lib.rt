@@ -1,0 +1,164 @@
+// What the events share: the next address, CR0 from state, registers, the thread's own failure.
+ghost use mathlib.Core.Path.{_≡_};
+ghost use Prim.Native.Nat.{_<_, _^_};
+ghost use Rattle.power_common.specs.Common.{next, advance, passes, ts-field, cr0-from-state, gpr, gpr-or-0, put-gpr, abort-cause, own-recording, fails, dooms, cr0-only, leveled};
+use thread::State;
+use thread::Thread;
+
+// The answer, 0, 20 or 21, and the thread afterwards.
+pub struct Did {
+    pub answer: u8,
+    pub thread: Thread,
+}
+
+// The address after.
+pub fn next(a: u64) -> u64
+    ensures { λ r. ⌜ r ≡ next a ⌝ }
+{
+    std::num::wrapping_add_u64(a, 4)
+}
+
+// The two TS bits between two zeros.
+pub fn ts_field(s: State) -> u8
+    ensures { λ r. ⌜ r ≡ ts-field s ⌝ }
+    ensures { λ r. ⌜ r < 8 ⌝ }
+{
+    match s {
+        State::N => 0b0000,
+        State::T => 0b0100,
+        State::S => 0b0010,
+    }
+}
+
+// The thread goes on behind its instruction.
+pub fn advance(t: Thread) -> Thread
+    ensures { λ r. ⌜ r ≡ advance t ⌝ }
+{
+    let mut k = t.control;
+    k.nia = next(k.nia);
+    let mut u = t;
+    u.control = k;
+    u
+}
+
+// Done, with nothing else.
+pub fn passes(t: Thread) -> Did
+    ensures { λ r. ⌜ r ≡ passes t ⌝ }
+{
+    let u = advance(t);
+    Did {
+        answer: 0,
+        thread: u,
+    }
+}
+
+pub fn cr0_from_state(t: Thread) -> Thread
+    ensures { λ r. ⌜ r ≡ cr0-from-state t ⌝ }
+{
+    let k = t.control;
+    let s = k.state;
+    let mut u = t;
+    u.cr0 = ts_field(s);
+    u
+}
+
+// CR0 from state, and on.
+pub fn cr0_only(t: Thread) -> Did
+    ensures { λ r. ⌜ r ≡ cr0-only t ⌝ }
+{
+    let u = cr0_from_state(t);
+    passes(u)
+}
+
+// The same with TEXASR anew.
+pub fn leveled(t: Thread, x: u64) -> Did
+    ensures { λ r. ⌜ r ≡ leveled t x ⌝ }
+{
+    let mut k = t.control;
+    k.texasr = x;
+    let mut u = t;
+    u.control = k;
+    cr0_only(u)
+}
+
+// General register r.
+pub fn gpr(t: Thread, r: u8) -> u64
+    requires { ⌜ r < 32 ⌝ }
+    ensures { λ v. ⌜ v ≡ gpr t r ⌝ }
+{
+    let live = t.live;
+    live.gpr[r as usize]
+}
+
+// Register RA, or 0 where RA = 0 names none.
+pub fn gpr_or_0(t: Thread, ra: u8) -> u64
+    requires { ⌜ ra < 32 ⌝ }
+    ensures { λ v. ⌜ v ≡ gpr-or-0 t ra ⌝ }
+{
+    if ra == 0 {
+        return 0;
+    }
+    gpr(t, ra)
+}
+
+pub fn put_gpr(t: Thread, r: u8, v: u64) -> Thread
+    requires { ⌜ r < 32 ⌝ }
+    ensures { λ u. ⌜ u ≡ put-gpr t r v ⌝ }
+{
+    let mut live = t.live;
+    live.gpr[r as usize] = v;
+    let mut u = t;
+    u.live = live;
+    u
+}
+
+// The cause by RA: the low byte of the register as code, and bit 31.
+pub fn abort_cause(t: Thread, ra: u8) -> u64
+    requires { ⌜ ra < 32 ⌝ }
+    ensures { λ r. ⌜ r ≡ abort-cause t ra ⌝ }
+    ensures { λ r. ⌜ r < 2 ^ 32 ⌝ }
+{
+    gpr_or_0(t, ra) % 256 * 0x100_0000 + 1
+}
+
+// A cause recorded for the thread's own instruction.
+pub fn own_recording(t: Thread, cause: u64) -> Thread
+    requires { ⌜ cause < 2 ^ 32 ⌝ }
+    ensures { λ r. ⌜ r ≡ own-recording t cause ⌝ }
+{
+    let k = t.control;
+    thread::recording(t, cause, true, k.nia)
+}
+
+// The thread's own failure in T: recorded, and handled in the same event.
+pub fn fails(t: Thread, cause: u64) -> Did
+    requires { ⌜ cause < 2 ^ 32 ⌝ }
+    ensures { λ r. ⌜ r ≡ fails t cause ⌝ }
+{
+    let u = own_recording(t, cause);
+    let v = thread::handling(u);
+    Did {
+        answer: 20,
+        thread: v,
+    }
+}
+
+// The thread's own failure in S: recorded, and handled only at tresume; 21 only if this event recorded it.
+pub fn dooms(t: Thread, cause: u64) -> Did
+    requires { ⌜ cause < 2 ^ 32 ⌝ }
+    ensures { λ r. ⌜ r ≡ dooms t cause ⌝ }
+{
+    let k = t.control;
+    let u = own_recording(t, cause);
+    let v = advance(u);
+    if thread::failed(k) {
+        return Did {
+            answer: 0,
+            thread: v,
+        };
+    }
+    Did {
+        answer: 21,
+        thread: v,
+    }
+}

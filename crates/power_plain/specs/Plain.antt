@@ -1,0 +1,40 @@
+-- addi, a disallowed instruction, an interrupt and the host's setting (document 01, "Events" 14 to 17).
+use Prim.Native.Nat.{ℕ, _+_, _-_, _%_, _^_}
+use mathlib.Core.Bool.{Bool, false, cond}
+use lib.Dec.{ltb}
+use Rattle.thread.specs.Texasr.{cause-disallowed}
+use Rattle.thread.specs.Thread.{with-control}
+use Rattle.thread.specs.declared.State.{State}
+use Rattle.thread.specs.declared.State.the-variants.{N, T, S}
+use Rattle.thread.specs.declared.Control.{Control}
+use Rattle.thread.specs.declared.Thread.{Thread}
+use Rattle.power_common.specs.Common.{did, passes, put-gpr, gpr-or-0, fails}
+use Rattle.power_common.specs.declared.Did.{Did}
+
+-- 14. addi (RT, RA, SI): register 0 reads as zero, SI is signed
+abbrev pub extended : ℕ → ℕ
+extended si = cond (ltb si 0x8000) si (si + (2 ^ 64 - 2 ^ 16))
+
+unfoldable pub addi : Thread → ℕ → ℕ → ℕ → Did
+addi t rt ra si = passes (put-gpr t rt ((gpr-or-0 t ra + extended si) % 2 ^ 64))
+
+-- 15. a disallowed instruction
+unfoldable pub disallowed : State → Thread → Did
+disallowed N t = passes t
+disallowed T t = fails t cause-disallowed
+disallowed S t = passes t
+
+-- 16. an interrupt suspends and enters privileged state with the facility off. 17. the host's own setting. Neither moves NIA
+abbrev pub with-msr : Control → State → Bool → Bool → Control
+with-msr k s pr tm = record { nia = k .nia; pr = pr; tm = tm; state = s; doomed = k .doomed; tfhar = k .tfhar; tfiar = k .tfiar; texasr = k .texasr }
+
+abbrev pub interrupted : State → State
+interrupted N = N
+interrupted T = S
+interrupted S = S
+
+unfoldable pub interrupt : Thread → Did
+interrupt t = did 0 (with-control t (with-msr (t .control) (interrupted (t .control .state)) false false))
+
+unfoldable pub host : Thread → Bool → Bool → Did
+host t pr tm = did 0 (with-control t (with-msr (t .control) (t .control .state) pr tm))

@@ -1,0 +1,21 @@
+-- `power_special::mtspr` meets its contract.
+use Rattle.power_special.specs.Special.{mtspr}
+use borrow.Author.Needs.{needs}
+use Rattle.power_special.proofs.mtspr.Statement.{statement}
+use Rattle.power_special.proofs.mtspr.Tie as tie
+
+gpr-requires : tie.Need-gpr-requires
+gpr-requires c κs = search needs
+
+put-spr-requires : tie.Need-put-spr-requires
+put-spr-requires c κs = search needs
+
+passes-requires : tie.Need-passes-requires
+passes-requires c κs = search needs
+
+returns : tie.Need-returns
+unfolding mtspr
+returns c = simp (c .passes .ensures, c .before .put-spr .ensures, c .before .before .gpr .ensures)
+
+pub mtspr-spec : {M : Type 1} → statement M
+mtspr-spec = tie.close (tie.spec gpr-requires put-spr-requires passes-requires returns)

@@ -1,4 +1,0 @@
-// The program on tapes/edition_two.tape.
-fn main() {
-    program::program();
-}

@@ -1,4 +1,0 @@
-// The program on tapes/first_byte.tape.
-fn main() {
-    program::program();
-}

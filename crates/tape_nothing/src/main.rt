@@ -1,4 +1,0 @@
-// The program on tapes/nothing.tape.
-fn main() {
-    program::program();
-}

@@ -1,4 +1,0 @@
-// The program on tapes/ragged.tape.
-fn main() {
-    program::program();
-}
