@@ -1,152 +1,94 @@
 // Conflicts with the other threads (document 01, "Loads, stores and conflicts", (c)).
 ghost use mathlib.Core.Path.{_≡_};
-ghost use mathlib.Core.Bool.{true};
-ghost use Prim.Native.Nat.{_<_, _≤_, _*_, _^_};
-ghost use Rattle.base.specs.Limits.{line-size, lines, most-threads};
-ghost use Rattle.event.specs.Event.{operands-right};
-ghost use Rattle.transaction.specs.Transaction.{line};
+ghost use Prim.Native.Nat.{_<_};
+ghost use Rattle.base.specs.Limits.{most-threads};
+ghost use Rattle.transaction.specs.Inner.{Lined};
 ghost use Rattle.machine.specs.Machine.{with-threads};
-ghost use Rattle.conflict.specs.Conflict.{hits, conflict-cause, other-recording, struck, strike, access, others};
-use base::LINE;
+ghost use Rattle.conflict.specs.Conflict.{hits, conflict-cause, struck, strike, others};
 use base::THREADS;
-use event::Event;
 use machine::Machine;
 use thread::State;
 use thread::Thread;
+use transaction::Cause;
+use transaction::Touch;
 use transaction::Transaction;
 
-// An access to a line meets a transaction: its write set or, for a store, either set.
-fn hits(x: Transaction, stores: bool, l: usize) -> bool
-    requires { ⌜ l < lines ⌝ }
-    ensures { λ r. ⌜ r ≡ hits x stores l ⌝ }
+// What is touched meets a transaction: a load its write set, a store either set.
+fn hits(x: Transaction, touch: Touch) -> bool
+    requires { ⌜ Lined touch ⌝ }
+    ensures { λ r. ⌜ r ≡ hits x touch ⌝ }
 {
+    let r = x.reads;
     let w = x.writes;
-    if lines::has(w, l) {
-        return true;
+    match touch {
+        Touch::Untouched => false,
+        Touch::Load(l) => lines::has(w, l),
+        Touch::Store(l) => {
+            if lines::has(w, l) {
+                return true;
+            }
+            lines::has(r, l)
+        }
     }
-    if stores {
-        let r = x.reads;
-        return lines::has(r, l);
-    }
-    false
 }
 
 // The cause by the state that the access is made in.
-fn conflict_cause(s: State) -> u64
+fn conflict_cause(s: State) -> Cause
     ensures { λ r. ⌜ r ≡ conflict-cause s ⌝ }
-    ensures { λ r. ⌜ r < 2 ^ 32 ⌝ }
 {
     match s {
-        State::N => thread::PLAIN_CONFLICT,
-        State::T => thread::CONFLICT,
-        State::S => thread::PLAIN_CONFLICT,
+        State::N => Cause::PlainConflict,
+        State::T => Cause::Conflict,
+        State::S => Cause::PlainConflict,
     }
 }
 
-// A cause recorded by another thread's event, at the failing thread's own NIA.
-fn other_recording(t: Thread, cause: u64) -> Thread
-    requires { ⌜ cause < 2 ^ 32 ⌝ }
-    ensures { λ r. ⌜ r ≡ other-recording t cause ⌝ }
+// A live transaction that is hit fails.
+fn struck(t: Thread, touch: Touch, cause: Cause) -> Thread
+    requires { ⌜ Lined touch ⌝ }
+    ensures { λ r. ⌜ r ≡ struck (t .control .msr .state) t touch cause ⌝ }
 {
     let k = t.control;
-    thread::recording(t, cause, false, k.nia)
-}
-
-// A live transaction that is hit fails: in T it is handled too, in S it waits for tresume.
-fn struck(t: Thread, stores: bool, l: usize, cause: u64) -> Thread
-    requires { ⌜ l < lines ⌝ }
-    requires { ⌜ cause < 2 ^ 32 ⌝ }
-    ensures { λ r. ⌜ r ≡ struck (t .control .state) t stores l cause ⌝ }
-{
-    let k = t.control;
-    let s = k.state;
-    let x = t.transaction;
-    match s {
-        State::N => t,
-        State::T => {
-            if hits(x, stores, l) {
-                let u = other_recording(t, cause);
-                return thread::handling(u);
-            }
-            t
-        }
-        State::S => {
-            if k.doomed {
-                return t;
-            }
-            if hits(x, stores, l) {
-                return other_recording(t, cause);
-            }
-            t
+    let m = k.msr;
+    let s = m.state;
+    if thread::is_live(s, m.doomed) {
+        let x = t.transaction;
+        if hits(x, touch) {
+            return thread::felled(t, cause);
         }
     }
+    t
 }
 
 // Every thread but the accessor struck.
-fn strike(m: Machine, w: usize, stores: bool, l: usize, cause: u64) -> Machine
-    requires { ⌜ l < lines ⌝ }
-    requires { ⌜ cause < 2 ^ 32 ⌝ }
-    ensures { λ r. ⌜ r ≡ with-threads m (strike (m .threads) w stores l cause most-threads) ⌝ }
+fn strike(m: Machine, w: usize, touch: Touch, cause: Cause) -> Machine
+    requires { ⌜ Lined touch ⌝ }
+    ensures { λ r. ⌜ r ≡ with-threads m (strike (m .threads) w touch cause most-threads) ⌝ }
 {
     let mut n = m;
     for i in 0..THREADS {
         if i != w {
             let t = m.threads[i];
-            let u = struck(t, stores, l, cause);
+            let u = struck(t, touch, cause);
             n.threads[i] = u;
         }
     }
     n
 }
 
-// An access by thread w to a doubleword.
-fn access(m: Machine, w: usize, stores: bool, index: u32) -> Machine
+// What thread w's touch leaves of the other threads.
+pub fn others(touch: Touch, m: Machine, w: usize) -> Machine
     requires { ⌜ w < most-threads ⌝ }
-    requires { ⌜ line index < lines ⌝ }
-    ensures { λ r. ⌜ r ≡ with-threads m (access (m .threads) w stores index) ⌝ }
+    requires { ⌜ Lined touch ⌝ }
+    ensures { λ r. ⌜ r ≡ with-threads m (others touch (m .threads) w) ⌝ }
 {
     let t = m.threads[w];
     let k = t.control;
-    let s = k.state;
-    strike(m, w, stores, index as usize / LINE, conflict_cause(s))
-}
-
-// What an event by thread w leaves of the other threads.
-pub fn others(e: Event, m: Machine, w: usize, len: usize) -> Machine
-    requires { ⌜ w < most-threads ⌝ }
-    requires { ⌜ operands-right e len ≡ true ⌝ }
-    requires { ⌜ len ≤ line-size * lines ⌝ }
-    ensures { λ r. ⌜ r ≡ with-threads m (others e (m .threads) w) ⌝ }
-{
-    match e {
-        Event::Tbegin { r: _ } => m,
-        Event::Tend { a: _ } => m,
-        Event::Tabort { ra: _ } => m,
-        Event::Tabortwc {
-            to: _,
-            ra: _,
-            rb: _,
-        } => m,
-        Event::Tabortdc {
-            to: _,
-            ra: _,
-            rb: _,
-        } => m,
-        Event::Tsr { l: _ } => m,
-        Event::Tcheck { bf: _ } => m,
-        Event::Treclaim { ra: _ } => m,
-        Event::Trechkpt => m,
-        Event::Mtspr { spr: _, ra: _ } => m,
-        Event::Mfspr { rt: _, spr: _ } => m,
-        Event::Ld { rt: _, index } => access(m, w, false, index),
-        Event::Std { ra: _, index } => access(m, w, true, index),
-        Event::Addi {
-            rt: _,
-            ra: _,
-            si: _,
-        } => m,
-        Event::Disallowed => m,
-        Event::Interrupt => m,
-        Event::Host { pr: _, tm: _ } => m,
+    let q = k.msr;
+    let s = q.state;
+    match touch {
+        Touch::Untouched => m,
+        Touch::Load(_) => strike(m, w, touch, conflict_cause(s)),
+        Touch::Store(_) => strike(m, w, touch, conflict_cause(s)),
     }
 }

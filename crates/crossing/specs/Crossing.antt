@@ -52,26 +52,21 @@ unfoldable pub control-of : RawControl → Control
 control-of k =
     record {
       nia = k .nia;
-      pr = eqb (k .pr) 1;
-      tm = eqb (k .tm) 1;
-      state = state-of (k .state);
-      doomed = eqb (k .doomed) 1;
-      tfhar = k .tfhar;
-      tfiar = k .tfiar;
-      texasr = k .texasr;
+      msr = record { pr = eqb (k .pr) 1; tm = eqb (k .tm) 1; state = state-of (k .state); doomed = eqb (k .doomed) 1 };
+      failure = record { tfhar = k .tfhar; tfiar = k .tfiar; texasr = k .texasr };
     }
 
 unfoldable pub raw-control : Control → RawControl
 raw-control k =
     record {
       nia = k .nia;
-      pr = bit (k .pr);
-      tm = bit (k .tm);
-      state = state-number (k .state);
-      doomed = bit (k .doomed);
-      tfhar = k .tfhar;
-      tfiar = k .tfiar;
-      texasr = k .texasr;
+      pr = bit (k .msr .pr);
+      tm = bit (k .msr .tm);
+      state = state-number (k .msr .state);
+      doomed = bit (k .msr .doomed);
+      tfhar = k .failure .tfhar;
+      tfiar = k .failure .tfiar;
+      texasr = k .failure .texasr;
     }
 
 unfoldable pub thread-of : RawThread → Thread

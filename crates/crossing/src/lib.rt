@@ -3,6 +3,8 @@ ghost use mathlib.Core.Path.{_≡_};
 ghost use Rattle.crossing.specs.Crossing.{state-of, state-number, control-right, right, control-of, raw-control, thread-of, raw-thread, machine-of, raw-machine};
 use machine::Machine;
 use thread::Control;
+use thread::Failure;
+use thread::Msr;
 use thread::Registers;
 use thread::State;
 use thread::Thread;
@@ -83,29 +85,35 @@ fn control_of(k: RawControl) -> Control
 {
     Control {
         nia: k.nia,
-        pr: k.pr == 1,
-        tm: k.tm == 1,
-        state: state_of(k.state),
-        doomed: k.doomed == 1,
-        tfhar: k.tfhar,
-        tfiar: k.tfiar,
-        texasr: k.texasr,
+        msr: Msr {
+            pr: k.pr == 1,
+            tm: k.tm == 1,
+            state: state_of(k.state),
+            doomed: k.doomed == 1,
+        },
+        failure: Failure {
+            tfhar: k.tfhar,
+            tfiar: k.tfiar,
+            texasr: k.texasr,
+        },
     }
 }
 
 fn raw_control(k: Control) -> RawControl
     ensures { λ r. ⌜ r ≡ raw-control k ⌝ }
 {
-    let s = k.state;
+    let m = k.msr;
+    let f = k.failure;
+    let s = m.state;
     RawControl {
         nia: k.nia,
-        pr: base::bit(k.pr) as u8,
-        tm: base::bit(k.tm) as u8,
+        pr: base::bit(m.pr) as u8,
+        tm: base::bit(m.tm) as u8,
         state: state_number(s),
-        doomed: base::bit(k.doomed) as u8,
-        tfhar: k.tfhar,
-        tfiar: k.tfiar,
-        texasr: k.texasr,
+        doomed: base::bit(m.doomed) as u8,
+        tfhar: f.tfhar,
+        tfiar: f.tfiar,
+        texasr: f.texasr,
     }
 }
 

@@ -9,7 +9,7 @@ use borrow.Author.Tests.{eqb-false}
 use Rattle.base.specs.Below.{all-below, any-below, count-below}
 use Rattle.lines.specs.Lines as lineset
 use Rattle.transaction.specs.Transaction as transaction
-use Rattle.thread.specs.Thread.{recording, handling}
+use Rattle.thread.specs.Thread.{recording, handling, felled}
 use Rattle.event.specs.Event.{kind, operands-right}
 use Rattle.power_common.specs.Common.{fails}
 use Rattle.power_aborts.specs.Compare as compare
@@ -19,11 +19,11 @@ use Rattle.power_begins.specs.Begins as begins
 use Rattle.power_reclaims.specs.Reclaims as reclaims
 use Rattle.power_special.specs.Special as special
 use Rattle.power_plain.specs.Plain as plain
-use Rattle.power_effect.specs.Events as events
+use Rattle.power_effect.specs.Effects.{effect}
 use Rattle.machine.specs.Machine.{fresh, fresh-thread}
 use Rattle.machine.specs.Valid as valid
 use Rattle.refusal.specs.Refusal.{bad-thing, refused-there, refused-later, refusal}
-use Rattle.conflict.specs.Conflict.{struck, strike, others}
+use Rattle.conflict.specs.Conflict.{hits, struck, strike, others}
 use Rattle.step.specs.Step.{perform, step}
 use Rattle.laws_secrecy.specs.Secrecy.{Alike, tells, Stepping}
 use Rattle.laws_secrecy.specs.Corollaries.{seen}
@@ -33,13 +33,13 @@ use Rattle.laws_examples.specs.Examples.{Example, small-memory, machine,
 unfoldable pub computed : Bool
 unfolding all-below any-below count-below
     lineset.place lineset.empty lineset.has lineset.with lineset.meets lineset.footprint
-    transaction.empty transaction.discard transaction.lookup-in transaction.loaded transaction.crowded transaction.full transaction.store-at transaction.commit-in
-    recording handling kind operands-right fails compare.picked compare.holds
-    events.own begins.tend aborts.tabort aborts.tabort-if begins.tsuspend begins.tsr reclaims.treclaim special.get-spr special.mfspr
-    access.ld-overflows access.std-overflows events.overflows access.ld access.logs access.meets-own access.std plain.addi plain.disallowed plain.interrupt
+    transaction.empty transaction.discard transaction.lookup-in transaction.loaded transaction.crowded transaction.full transaction.store-at transaction.commit-in transaction.written
+    recording handling felled kind operands-right fails compare.picked compare.holds
+    effect begins.tend aborts.tabort aborts.tabort-if begins.tsuspend begins.tsr reclaims.treclaim special.get-spr special.mfspr
+    access.ld access.logs access.meets-own access.std plain.addi plain.disallowed plain.interrupt
     fresh fresh-thread
     valid.sized valid.shaped valid.place-right valid.unused-zero valid.aligned valid.cr-small valid.fields-small valid.no-line valid.holds-nothing valid.live-rules valid.state-rules valid.indices-inside valid.line-inside valid.lines-inside valid.unlike valid.distinct valid.logs-line valid.line-logged valid.writes-logged valid.held-right valid.thread-valid valid.clash valid.clear-of valid.apart valid.thread-right valid.threads-right valid.valid
-    bad-thing refused-there refused-later refusal struck strike others perform step tells seen
+    bad-thing refused-there refused-later refusal hits struck strike others perform step tells seen
 computed = true
 
 -- whatever the values

@@ -23,7 +23,8 @@ open-thread level pr value x =
       live = record { gpr = set (blank-registers .gpr) 1 value; cr = blank-registers .cr };
       cr0 = 0;
       checkpoint = blank-registers;
-      control = record { nia = 0; pr = pr; tm = true; state = T; doomed = false; tfhar = 0; tfiar = 0; texasr = level };
+      control =
+          record { nia = 0; msr = record { pr = pr; tm = true; state = T; doomed = false }; failure = record { tfhar = 0; tfiar = 0; texasr = level } };
       transaction = x;
     }
 

@@ -1,23 +1,24 @@
 -- Leaky variants of the step: the third demand is false of each, and an example shows it. Proved in proofs/Leaks.antt.
-use mathlib.Core.Bool.{Bool, true, false, cond, _&&_, _||_}
+use mathlib.Core.Bool.{Bool, true, false, cond, _&&_}
 use mathlib.Core.List.{List, [], _∷_}
 use Prim.Native.Nat.{ℕ}
 use lib.Dec.{eqb}
 use lib.ListN.{length, getD, set}
 use Rattle.base.specs.Below.{all-below}
 use Rattle.transaction.specs.Transaction as transaction
+use Rattle.transaction.specs.declared.Touch.the-variants.{Untouched}
 use Rattle.thread.specs.Thread.{with-control, in-state}
 use Rattle.thread.specs.declared.State.the-variants.{N}
 use Rattle.thread.specs.declared.Thread.{Thread}
+use Rattle.thread.specs.declared.Effect.{Effect}
 use Rattle.event.specs.Event.{kind}
 use Rattle.event.specs.declared.Event.{Event}
 use Rattle.event.specs.declared.Event.the-variants.{Tabort, Ld, Std, Disallowed}
-use Rattle.power_common.specs.Common.{ran, gpr, put-gpr}
-use Rattle.power_effect.specs.Events as events
+use Rattle.power_common.specs.Common.{gpr, put-gpr}
+use Rattle.power_effect.specs.Effects.{effect}
 use Rattle.machine.specs.Machine.{thread, with-threads, fresh-thread}
 use Rattle.refusal.specs.Refusal.{refusal}
-use Rattle.conflict.specs.Conflict.{others}
-use Rattle.step.specs.Step.{outcome, joined, perform, Fed, from}
+use Rattle.step.specs.Step.{outcome, applied, perform, Fed, from}
 use Rattle.laws_secrecy.specs.Secrecy.{Stepping, Until, SecretOf}
 use Rattle.laws_examples.specs.Examples.{open-thread, Example, start, ToldApart, Each}
 
@@ -27,7 +28,7 @@ performing p m mem v e = cond (eqb (refusal m (length mem) v e) 0) (p m mem v e)
 
 -- the memory that an event leaves if its thread is in N: a store is made
 abbrev pub plainly : Event → Thread → List ℕ → List ℕ
-plainly e t mem = events.own e (with-control t (in-state (t .control) N false)) mem .memory
+plainly e t mem = transaction.written (effect e (with-control t (in-state (t .control) N false)) mem .write) (t .transaction) mem
 
 -- 1. a store in T goes to memory at once, besides the log
 unfoldable pub at-once : Stepping
@@ -40,20 +41,21 @@ at-once =
 abbrev pub same-values : List ℕ → List ℕ → Bool
 same-values xs ys = all-below (λ i. eqb (getD xs i 0) (getD ys i 0)) (length xs)
 
+abbrev pub untouching : Effect → Effect
+untouching f = record { answer = f .answer; thread = f .thread; touch = Untouched; write = f .write }
+
 unfoldable pub unless-same : Stepping
 unless-same =
     performing (λ m mem v e.
     let t = thread (m .threads) v in
-    let spared = events.overflows e t || eqb (kind e) 13 && same-values mem (plainly e t mem) in
-    joined m (cond spared (m .threads) (others e (m .threads) v)) v (events.own e t mem))
+    let f = effect e t mem in
+    applied m mem v (cond (eqb (kind e) 13 && same-values mem (plainly e t mem)) (untouching f) f))
 
 -- 3. a load takes the value that thread 0 has in its log
 unfoldable pub from-log : Stepping
 from-log =
     performing (λ m mem v e.
-    let t = thread (m .threads) v in
-    let lent = transaction.commit (thread (m .threads) 0 .transaction) mem in
-    joined m (cond (events.overflows e t) (m .threads) (others e (m .threads) v)) v (ran (events.own e t lent .did) (events.own e t mem .memory)))
+    applied m mem v (effect e (thread (m .threads) v) (transaction.commit (thread (m .threads) 0 .transaction) mem)))
 
 -- 4. the handling of a thread's own failure, which answers 20, leaves register 1
 abbrev pub leaving : ℕ → Thread → Thread → Thread

@@ -68,7 +68,7 @@ module _ {s : State} {t : Thread} {len : ℕ} (r : Right s t len) where
       }
 
   -- control registers, perhaps of another state
-  pub with-controls : {s' : State} (k : Control) → k .state ≡ s' → Addressed (k .nia) (k .tfhar) → Rules s' (k .doomed) (k .texasr) (t .transaction)
+  pub with-controls : {s' : State} (k : Control) → k .msr .state ≡ s' → Addressed (k .nia) (k .failure .tfhar) → Rules s' (k .msr .doomed) (k .failure .texasr) (t .transaction)
       → Right s' (with-control t k) len
   with-controls k p a g = record { is = p; file = r .file; addresses = a; rules = g; holds = r .holds }
 
@@ -77,7 +77,7 @@ module _ {s : State} {t : Thread} {len : ℕ} (r : Right s t len) where
   passed = with-controls _ (r .is) (record { nia = next-aligned _ (r .addresses .nia); tfhar = r .addresses .tfhar }) (r .rules)
 
   pub from-state : Right s (cr0-from-state t) len
-  from-state = with-field _ (let h = ts-small (t .control .state) in omega arith)
+  from-state = with-field _ (let h = ts-small (t .control .msr .state) in omega arith)
 
   -- one general register, one CR field
   pub with-gpr : (n v : ℕ) → Right s (put-gpr t n v) len

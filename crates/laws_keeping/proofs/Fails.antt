@@ -10,9 +10,10 @@ use borrow.Author.Tests.{eqb-true, eq-eqb, ltb-true, lt-ltb, leb-true, le-leb, n
 use Rattle.base.specs.Limits.{most-footprint, most-levels}
 use Rattle.lines.specs.Lines as lineset
 use Rattle.transaction.specs.Transaction as transaction
+use Rattle.transaction.specs.declared.Cause.{Cause}
 use Rattle.transaction.specs.declared.Transaction.{Transaction}
 use Rattle.thread.specs.Texasr.{fs, tl}
-use Rattle.thread.specs.Thread.{with-control, with-transaction, failed, noted, recording, handling}
+use Rattle.thread.specs.Thread.{with-control, with-transaction, failed, noted, recording, handling, with-failure, in-state}
 use Rattle.thread.specs.declared.Registers.{Registers}
 use Rattle.thread.specs.declared.State.{State}
 use Rattle.thread.specs.declared.State.the-variants.{N, T, S}
@@ -59,27 +60,27 @@ Rules S doomed texasr x = ((doomed ≡ true) × (fs texasr ≡ 1) × (x ≡ tran
 
 -- the plain facts of a valid thread in state s
 pub record Right (s : State) (t : Thread) (len : ℕ) : Type 0 where
-  pub is : t .control .state ≡ s
+  pub is : t .control .msr .state ≡ s
   pub file : Filed (t .live) (t .checkpoint) (t .cr0)
-  pub addresses : Addressed (t .control .nia) (t .control .tfhar)
-  pub rules : Rules s (t .control .doomed) (t .control .texasr) (t .transaction)
+  pub addresses : Addressed (t .control .nia) (t .control .failure .tfhar)
+  pub rules : Rules s (t .control .msr .doomed) (t .control .failure .texasr) (t .transaction)
   pub holds : Holds (t .transaction) len
 
 -- the same as the tests have it
-live-from : (t : Thread) → live-rules t ≡ true → Live (t .control .texasr) (t .transaction)
+live-from : (t : Thread) → live-rules t ≡ true → Live (t .control .failure .texasr) (t .transaction)
 unfolding live-rules
 live-from t h =
     let c = simp and-eq-true-iff at h in
-    let f : fs (t .control .texasr) ≡ 1 → ⊥ = eqb-false _ 1 (not-true _ (c .0 .0 .0)) in
+    let f : fs (t .control .failure .texasr) ≡ 1 → ⊥ = eqb-false _ 1 (not-true _ (c .0 .0 .0)) in
     record { unfailed = omega arith; low = leb-true _ _ (c .0 .0 .1); high = leb-true _ _ (c .0 .1); small = leb-true _ _ (c .1) }
 
-live-back : (t : Thread) → Live (t .control .texasr) (t .transaction) → live-rules t ≡ true
+live-back : (t : Thread) → Live (t .control .failure .texasr) (t .transaction) → live-rules t ≡ true
 unfolding live-rules
 live-back t l =
     simp and-eq-true-iff
-    (((ap not (ne-eqb (fs (t .control .texasr)) 1 (omega arith)), le-leb _ _ (l .low)), le-leb _ _ (l .high)), le-leb _ _ (l .small))
+    (((ap not (ne-eqb (fs (t .control .failure .texasr)) 1 (omega arith)), le-leb _ _ (l .low)), le-leb _ _ (l .high)), le-leb _ _ (l .small))
 
-rules-from : (s : State) (t : Thread) (len : ℕ) → Holds (t .transaction) len → state-rules s t ≡ true → Rules s (t .control .doomed) (t .control .texasr) (t .transaction)
+rules-from : (s : State) (t : Thread) (len : ℕ) → Holds (t .transaction) len → state-rules s t ≡ true → Rules s (t .control .msr .doomed) (t .control .failure .texasr) (t .transaction)
 unfolding state-rules
 rules-from N t len g h =
     let c = simp and-eq-true-iff at h in
@@ -87,16 +88,16 @@ rules-from N t len g h =
 rules-from T t len g h =
     let c = simp and-eq-true-iff at h in
     (not-true _ (c .0), live-from t (c .1))
-rules-from S t len g h = go (t .control .doomed) refl h
+rules-from S t len g h = go (t .control .msr .doomed) refl h
   where
-    go : (b : Bool) → t .control .doomed ≡ b → cond b (holds-nothing (t .transaction) && failed (t .control)) (live-rules t) ≡ true
-        → Rules S (t .control .doomed) (t .control .texasr) (t .transaction)
+    go : (b : Bool) → t .control .msr .doomed ≡ b → cond b (holds-nothing (t .transaction) && failed (t .control)) (live-rules t) ≡ true
+        → Rules S (t .control .msr .doomed) (t .control .failure .texasr) (t .transaction)
     go true d q =
         let c = simp and-eq-true-iff at q in
         inl (d, eqb-true _ 1 (c .1), nothing-is-empty _ (g .shape) (held-unused _ len (g .held)) (c .0))
     go false d q = inr (d, live-from t q)
 
-rules-back : (s : State) (t : Thread) → Rules s (t .control .doomed) (t .control .texasr) (t .transaction) → state-rules s t ≡ true
+rules-back : (s : State) (t : Thread) → Rules s (t .control .msr .doomed) (t .control .failure .texasr) (t .transaction) → state-rules s t ≡ true
 unfolding state-rules
 rules-back N t r = simp and-eq-true-iff (ap not (r .0), ap holds-nothing (r .1) ∙ empty-nothing)
 rules-back T t r = simp and-eq-true-iff (ap not (r .0), live-back t (r .1))
@@ -110,7 +111,7 @@ shaped-sets t h =
     record { reads = l .4; writes = l .5; log = l .6 }
 
 -- a valid thread has these facts, and one that has them is valid
-pub right : (s : State) (t : Thread) (len : ℕ) → t .control .state ≡ s → thread-valid t len ≡ true → Right s t len
+pub right : (s : State) (t : Thread) (len : ℕ) → t .control .msr .state ≡ s → thread-valid t len ≡ true → Right s t len
 unfolding thread-valid aligned fields-small
 right s t len p h =
     let c = simp and-eq-true-iff at h in
@@ -163,27 +164,27 @@ module _ (d : Bool) (texasr : ℕ) (x : Transaction) where
   undoomed-live p (inr r) = r .1
 
 -- a live transaction has FS = 0
-pub live-unfailed-t : (t : Thread) (len : ℕ) → t .control .state ≡ T → thread-valid t len ≡ true → failed (t .control) ≡ false
+pub live-unfailed-t : (t : Thread) (len : ℕ) → t .control .msr .state ≡ T → thread-valid t len ≡ true → failed (t .control) ≡ false
 live-unfailed-t t len p h = live-unfailed (right T t len p h .rules .1)
 
-pub live-unfailed-s : (t : Thread) (len : ℕ) → t .control .state ≡ S → t .control .doomed ≡ false → thread-valid t len ≡ true → failed (t .control) ≡ false
+pub live-unfailed-s : (t : Thread) (len : ℕ) → t .control .msr .state ≡ S → t .control .msr .doomed ≡ false → thread-valid t len ≡ true → failed (t .control) ≡ false
 live-unfailed-s t len p d h = live-unfailed (undoomed-live _ _ _ d (right S t len p h .rules))
 
 pub valid-shaped : (t : Thread) (len : ℕ) → thread-valid t len ≡ true → Shaped (t .transaction)
 valid-shaped t len h = right _ t len refl h .holds .shape
 
 -- without a live transaction nothing is held
-pub held-nothing-n : (t : Thread) (len : ℕ) → t .control .state ≡ N → thread-valid t len ≡ true → t .transaction ≡ transaction.empty
+pub held-nothing-n : (t : Thread) (len : ℕ) → t .control .msr .state ≡ N → thread-valid t len ≡ true → t .transaction ≡ transaction.empty
 held-nothing-n t len p h = right N t len p h .rules .1
 
-pub held-nothing-s : (t : Thread) (len : ℕ) → t .control .state ≡ S → t .control .doomed ≡ true → thread-valid t len ≡ true → t .transaction ≡ transaction.empty
+pub held-nothing-s : (t : Thread) (len : ℕ) → t .control .msr .state ≡ S → t .control .msr .doomed ≡ true → thread-valid t len ≡ true → t .transaction ≡ transaction.empty
 held-nothing-s t len p d h = doomed-empty _ _ _ d (right S t len p h .rules)
 
 pub empty-holds : (len : ℕ) → Holds transaction.empty len
 empty-holds len = record { shape = empty-shaped; held = empty-held len }
 
 -- handling where nothing is held
-pub handled : (t : Thread) (len : ℕ) → Filed (t .live) (t .checkpoint) (t .cr0) → Addressed (t .control .nia) (t .control .tfhar) → t .transaction ≡ transaction.empty
+pub handled : (t : Thread) (len : ℕ) → Filed (t .live) (t .checkpoint) (t .cr0) → Addressed (t .control .nia) (t .control .failure .tfhar) → t .transaction ≡ transaction.empty
     → Right N (handling t) len
 unfolding handling
 handled t len f a e =
@@ -195,9 +196,9 @@ handled t len f a e =
       holds = rw e (empty-holds len);
     }
 
-module _ (t : Thread) (cause : ℕ) (exact : Bool) (at : ℕ) where
+module _ (t : Thread) (cause : Cause) (exact : Bool) (at : ℕ) where
   -- a first failure is noted, and empties sets and log
-  recorded : failed (t .control) ≡ false → recording t cause exact at ≡ with-transaction (with-control t (noted (t .control) cause exact at)) transaction.empty
+  recorded : failed (t .control) ≡ false → recording t cause exact at ≡ with-transaction (with-control t (with-failure (in-state (t .control) (t .control .msr .state) true) (noted (t .control) cause exact at))) transaction.empty
   unfolding recording transaction.discard
   recorded p = simp p
 
@@ -211,7 +212,7 @@ module _ (t : Thread) (cause : ℕ) (exact : Bool) (at : ℕ) where
   pub failure-s : (len : ℕ) → Right S t len → Right S (recording t cause exact at) len
   failure-s len r = go (r .rules)
     where
-      go : Rules S (t .control .doomed) (t .control .texasr) (t .transaction) → Right S (recording t cause exact at) len
+      go : Rules S (t .control .msr .doomed) (t .control .failure .texasr) (t .transaction) → Right S (recording t cause exact at) len
       go (inl d) = rw (recording-again t cause exact at (eq-eqb _ 1 (d .1))) r
       go (inr d) =
           rw (recorded (live-unfailed (d .1)))
@@ -224,10 +225,10 @@ module _ (t : Thread) (cause : ℕ) (exact : Bool) (at : ℕ) where
           })
 
 -- so on the tests themselves
-pub failure-keeps-t : (t : Thread) (len cause : ℕ) (exact : Bool) (at : ℕ) → t .control .state ≡ T → thread-valid t len ≡ true
+pub failure-keeps-t : (t : Thread) (len : ℕ) (cause : Cause) (exact : Bool) (at : ℕ) → t .control .msr .state ≡ T → thread-valid t len ≡ true
     → thread-valid (handling (recording t cause exact at)) len ≡ true
 failure-keeps-t t len cause exact at p h = valid (failure-t t cause exact at len (right T t len p h))
 
-pub failure-keeps-s : (t : Thread) (len cause : ℕ) (exact : Bool) (at : ℕ) → t .control .state ≡ S → thread-valid t len ≡ true
+pub failure-keeps-s : (t : Thread) (len : ℕ) (cause : Cause) (exact : Bool) (at : ℕ) → t .control .msr .state ≡ S → thread-valid t len ≡ true
     → thread-valid (recording t cause exact at) len ≡ true
 failure-keeps-s t len cause exact at p h = valid (failure-s t cause exact at len (right S t len p h))

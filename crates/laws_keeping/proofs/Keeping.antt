@@ -15,8 +15,10 @@ use Rattle.base.proofs.Below.{still-false, fork}
 use Rattle.lines.specs.Lines as lineset
 use Rattle.transaction.specs.Transaction as transaction
 use Rattle.thread.specs.declared.Thread.{Thread}
+use Rattle.thread.specs.declared.Effect.{Effect}
 use Rattle.event.specs.declared.Event.{Event}
-use Rattle.power_effect.specs.Events.{own}
+use Rattle.power_effect.specs.Effects.{effect}
+use Rattle.conflict.specs.Conflict.{others}
 use Rattle.machine.specs.Machine.{thread, no-thread, with-threads}
 use Rattle.machine.specs.Valid.{sized, thread-valid, valid}
 use Rattle.refusal.specs.Refusal.{refused-later, refusal}
@@ -24,23 +26,28 @@ use Rattle.step.specs.Step.{Outcome, perform, step}
 use Rattle.machine.specs.declared.Machine.{Machine}
 use Rattle.machine.proofs.Validity.{valid-memory-sized, valid-count, valid-thread}
 use Rattle.refusal.proofs.Laws.{passed-thread, passed-operands, passed-there, refusal-valid}
-use Rattle.laws_keeping.proofs.Own.{own-length, own-keeps}
-use Rattle.laws_keeping.proofs.Sets.{Stores, Loads, writes-touch, own-writes, own-touches}
-use Rattle.laws_keeping.proofs.Others.{Strikes, strikes, strikes-length, Fits, Met, strikes-met}
+use Rattle.laws_keeping.proofs.Effects.{written-length, effect-keeps}
+use Rattle.laws_keeping.proofs.Sets.{Stores, Loads, writes-touch, effect-writes, effect-touches}
+use Rattle.laws_keeping.proofs.Others.{Fits, Met, others-length, others-met}
 use Rattle.laws_keeping.proofs.Parts.{thread-of, Clear, Right, valid-right, right-valid}
 use Rattle.laws_keeping.specs.Keeping.{Keeps, RefusedUntouched, OneAnswer}
 
--- ---- the machine after it: the others as the event leaves them, its own thread made y
+-- ---- the machine after an effect of thread w: the others after what it touches, and its own thread
 
-module _ (m : Machine) (len w : ℕ) (e : Event) (us : List Thread) (y : Thread)
+module _ (m : Machine) (len w : ℕ) (f : Effect)
     (r : Right m len) (here : w < m .count) (few : m .count ≤ most-threads)
-    (s : Strikes e (thread-of m w) (m .threads) w us)
-    (fine : thread-valid y len ≡ true)
-    (writes : (l : ℕ) → lineset.has (y .transaction .writes) l ≡ true → (lineset.has (thread-of m w .transaction .writes) l ≡ true) ⊎ Stores e (thread-of m w) l)
-    (touches : (l : ℕ) → transaction.touches (y .transaction) l ≡ true
-    → (transaction.touches (thread-of m w .transaction) l ≡ true) ⊎ (Stores e (thread-of m w) l ⊎ Loads e (thread-of m w) l)) where
+    (fine : thread-valid (f .thread) len ≡ true)
+    (writes : (l : ℕ) → lineset.has (f .thread .transaction .writes) l ≡ true → (lineset.has (thread-of m w .transaction .writes) l ≡ true) ⊎ Stores f l)
+    (touches : (l : ℕ) → transaction.touches (f .thread .transaction) l ≡ true
+    → (transaction.touches (thread-of m w .transaction) l ≡ true) ⊎ (Stores f l ⊎ Loads f l)) where
+  abbrev us : List Thread
+  us = others (f .touch) (m .threads) w
+
+  abbrev y : Thread
+  y = f .thread
+
   four : length us ≡ most-threads
-  four = strikes-length e _ (m .threads) us w s ∙ r .four
+  four = others-length (f .touch) (m .threads) w ∙ r .four
 
   own-at : thread (set us w y) w ≡ y
   own-at = let h : w < length us = omega (arith, four) in getD-set-same us w y no-thread h
@@ -49,8 +56,8 @@ module _ (m : Machine) (len w : ℕ) (e : Event) (us : List Thread) (y : Thread)
   other-at : (v : ℕ) → (v ≡ w → ⊥) → thread (set us w y) v ≡ thread us v
   other-at v n = getD-set-other us w v y no-thread n
 
-  other : (v : ℕ) → v < most-threads → (v ≡ w → ⊥) → Met e (thread-of m w) (thread-of m v) (thread us v) (ltb v (m .count)) len
-  other v b n = strikes-met e _ (m .threads) us w v _ len s (r .four) b n (r .each v b)
+  other : (v : ℕ) → v < most-threads → (v ≡ w → ⊥) → Met (f .touch) (thread-of m v) (thread us v) (ltb v (m .count)) len
+  other v b n = others-met (m .threads) w v _ len (r .four) b n (r .each v b) (f .touch)
 
   each : (v : ℕ) → v < most-threads → Fits (ltb v (m .count)) (thread (set us w y) v) len
   each v b = go (ℕ-discrete v w)
@@ -103,12 +110,12 @@ perform-right m mem w e v p =
     let z = valid-memory-sized m len v in
     let h = valid-thread m len v w here in
     let o = passed-operands m len w e p in
-    joined-right m len w e _ (own e t mem .did .thread) (valid-right m len v) here (valid-count m len v) (strikes e t (m .threads) w)
-    (own-keeps e t mem z h o (passed-there m len w e p)) (own-writes e t mem z h o) (own-touches e t mem z h o)
+    joined-right m len w (effect e t mem) (valid-right m len v) here (valid-count m len v)
+    (effect-keeps e t mem z h o (passed-there m len w e p)) (effect-writes e t mem z h o) (effect-touches e t mem z h o)
 
 perform-length : (m : Machine) (mem : List ℕ) (w : ℕ) (e : Event) → length (perform m mem w e .memory) ≡ length mem
 unfolding perform
-perform-length m mem w e = own-length e (thread-of m w) mem
+perform-length m mem w e = written-length (effect e (thread-of m w) mem .write) (thread-of m w .transaction) mem
 
 abbrev Kept : List ℕ → Outcome → Type 0
 Kept mem o = (length (o .memory) ≡ length mem) × (valid (o .done .machine) (length (o .memory)) ≡ true)

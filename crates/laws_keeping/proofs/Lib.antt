@@ -1,7 +1,7 @@
 pub mod Held
 pub mod Fails
 pub mod Anew
-pub mod Own
+pub mod Effects
 pub mod Sets
 pub mod Struck
 pub mod Others

@@ -1,6 +1,6 @@
--- What an event adds to its own thread's sets: nothing, or the line of an access that does not overflow.
+-- What an event adds to its own thread's sets: nothing, or the line that it touches.
 use mathlib.Core.Path.{_≡_, refl, sym, ap, _∙_}
-use mathlib.Core.Bool.{Bool, true, false, cond, _||_, or-assoc, or-comm, or-true, false≢true}
+use mathlib.Core.Bool.{Bool, true, false, _||_, or-assoc, or-comm, or-true, false≢true}
 use mathlib.Core.Logic.{_⊎_, inl, inr, ⊎-elim}
 use mathlib.Core.List.{List}
 use Prim.Native.Nat.{ℕ, _<_}
@@ -11,44 +11,39 @@ use Rattle.base.specs.Limits.{lines, most-levels}
 use Rattle.base.proofs.Below.{fork}
 use Rattle.lines.specs.Lines as lineset
 use Rattle.transaction.specs.Transaction as transaction
+use Rattle.transaction.specs.declared.Cause.{Cause}
+use Rattle.transaction.specs.declared.Touch.the-variants.{Load, Store}
 use Rattle.transaction.specs.declared.Transaction.{Transaction}
-use Rattle.thread.specs.Texasr.{tl, cause-footprint}
-use Rattle.thread.specs.Thread.{with-transaction, failed, recording, handling}
+use Rattle.thread.specs.Texasr.{tl}
+use Rattle.thread.specs.Thread.{failed, recording, handling}
 use Rattle.thread.specs.declared.State.{State}
 use Rattle.thread.specs.declared.State.the-variants.{N, T, S}
 use Rattle.thread.specs.declared.Thread.{Thread}
+use Rattle.thread.specs.declared.Effect.{Effect}
 use Rattle.event.specs.Event.{operands-right}
 use Rattle.event.specs.declared.Event.{Event}
 use Rattle.event.specs.declared.Event.the-variants.{Tbegin, Tend, Tabort, Tabortwc, Tabortdc, Tsr, Tcheck, Treclaim, Trechkpt, Mtspr, Mfspr, Ld, Std, Addi, Disallowed, Interrupt, Host}
 use Rattle.event.proofs.Laws.{access-in}
-use Rattle.power_common.specs.Common.{Ran, passes, cr0-from-state, fails, dooms}
-use Rattle.power_access.specs.Access.{takes, joins, tracked, ld-overflows, std-overflows, ld, logs, meets-own, std}
+use Rattle.power_common.specs.Common.{cr0-from-state, fails, dooms}
+use Rattle.power_access.specs.Access.{takes, tracked, loads, ld-overflows, std-overflows, ld, logs, meets-own, std}
 use Rattle.power_aborts.specs.Aborts.{tabort, tabort-if}
 use Rattle.power_begins.specs.Begins.{tbegin, commits, tend, tsuspend, tresume, tsr}
 use Rattle.power_reclaims.specs.Reclaims.{tcheck, treclaim, trechkpt}
 use Rattle.power_special.specs.Special.{mtspr, mfspr}
 use Rattle.power_plain.specs.Plain.{addi, disallowed, interrupt, host}
-use Rattle.power_effect.specs.Events.{overflows, own}
+use Rattle.power_effect.specs.Effects.{effect}
 use Rattle.power_common.specs.declared.Did.{Did}
 use Rattle.machine.specs.Valid.{memory-sized, thread-valid}
 use Rattle.laws_keeping.proofs.Held.{Shaped, join-has, store-has, store-reads, empty-touches}
 use Rattle.laws_keeping.proofs.Fails.{valid-shaped}
-use Rattle.laws_keeping.proofs.Own.{line-below}
+use Rattle.laws_keeping.proofs.Effects.{line-below}
 
--- a store to the line, and an access to the line, that do not overflow
-pub record Stores (e : Event) (t : Thread) (l : ℕ) : Type 0 where
-  pub ra : ℕ
-  pub index : ℕ
-  pub is : e ≡ Std ra index
-  pub line : l ≡ transaction.line index
-  pub made : overflows e t ≡ false
+-- an effect that stores to the line, and one that loads from it
+abbrev pub Stores : Effect → ℕ → Type 0
+Stores f l = f .touch ≡ Store l
 
-pub record Loads (e : Event) (t : Thread) (l : ℕ) : Type 0 where
-  pub rt : ℕ
-  pub index : ℕ
-  pub is : e ≡ Ld rt index
-  pub line : l ≡ transaction.line index
-  pub made : overflows e t ≡ false
+abbrev pub Loads : Effect → ℕ → Type 0
+Loads f l = f .touch ≡ Load l
 
 -- ---- a transaction kept or emptied: its sets only lose lines
 
@@ -71,19 +66,19 @@ abbrev Shed : Thread → Did → Type 0
 Shed t d = Sheds (t .transaction) (d .thread .transaction)
 
 module _ (t : Thread) where
-  pub recording-sheds : (cause : ℕ) (exact : Bool) (at : ℕ) → Sheds (t .transaction) (recording t cause exact at .transaction)
+  pub recording-sheds : (cause : Cause) (exact : Bool) (at : ℕ) → Sheds (t .transaction) (recording t cause exact at .transaction)
   unfolding recording transaction.discard
   recording-sheds cause exact at = fork (λ (u : Thread). Sheds (t .transaction) (u .transaction)) (failed (t .control)) (λ e. inl refl) (λ e. inr refl)
 
-  pub handling-sheds : (cause : ℕ) (exact : Bool) (at : ℕ) → Sheds (t .transaction) (handling (recording t cause exact at) .transaction)
+  pub handling-sheds : (cause : Cause) (exact : Bool) (at : ℕ) → Sheds (t .transaction) (handling (recording t cause exact at) .transaction)
   unfolding handling
   handling-sheds = recording-sheds
 
-  fails-sheds : (cause : ℕ) → Shed t (fails t cause)
+  fails-sheds : (cause : Cause) → Shed t (fails t cause)
   unfolding fails
   fails-sheds cause = handling-sheds cause true _
 
-  dooms-sheds : (cause : ℕ) → Shed t (dooms t cause)
+  dooms-sheds : (cause : Cause) → Shed t (dooms t cause)
   unfolding dooms
   dooms-sheds cause = recording-sheds cause true _
 
@@ -94,16 +89,16 @@ module _ (t : Thread) where
   tbegin-sheds : (s : State) (r : Bool) → Shed t (tbegin s t r)
   unfolding tbegin
   tbegin-sheds N r = inl refl
-  tbegin-sheds T r = fork (Shed t) (leb most-levels (tl (t .control .texasr))) (λ e. fails-sheds t _) (λ e. inl refl)
+  tbegin-sheds T r = fork (Shed t) (leb most-levels (tl (t .control .failure .texasr))) (λ e. fails-sheds t _) (λ e. inl refl)
   tbegin-sheds S r = inl refl
 
-  tend-sheds : (s : State) (a : Bool) (mem : List ℕ) → Shed t (tend s t a mem .did)
+  tend-sheds : (s : State) (a : Bool) → Sheds (t .transaction) (tend s t a .thread .transaction)
   unfolding tend transaction.discard
-  tend-sheds N a mem = inl refl
-  tend-sheds T a mem = fork (λ (r : Ran). Shed t (r .did)) (commits t a) (λ e. inr refl) (λ e. inl refl)
-  tend-sheds S a mem = inl refl
+  tend-sheds N a = inl refl
+  tend-sheds T a = fork (λ (f : Effect). Sheds (t .transaction) (f .thread .transaction)) (commits t a) (λ e. inr refl) (λ e. inl refl)
+  tend-sheds S a = inl refl
 
-  tabort-sheds : (s : State) (cause : ℕ) → Shed t (tabort s t cause)
+  tabort-sheds : (s : State) (cause : Cause) → Shed t (tabort s t cause)
   unfolding tabort
   tabort-sheds N cause = inl refl
   tabort-sheds T cause = fails-sheds t cause
@@ -111,7 +106,7 @@ module _ (t : Thread) where
 
   tabort-if-sheds : (held : Bool) → Shed t (tabort-if t held)
   unfolding tabort-if
-  tabort-if-sheds held = fork (Shed t) held (λ e. tabort-sheds (t .control .state) _) (λ e. inl refl)
+  tabort-if-sheds held = fork (Shed t) held (λ e. tabort-sheds (t .control .msr .state) _) (λ e. inl refl)
 
   tsuspend-sheds : (s : State) → Shed t (tsuspend s t)
   unfolding tsuspend
@@ -123,11 +118,11 @@ module _ (t : Thread) where
   unfolding tresume handling
   tresume-sheds N = inl refl
   tresume-sheds T = inl refl
-  tresume-sheds S = fork (Shed t) (t .control .doomed) (λ e. inl refl) (λ e. inl refl)
+  tresume-sheds S = fork (Shed t) (t .control .msr .doomed) (λ e. inl refl) (λ e. inl refl)
 
   tsr-sheds : (l : Bool) → Shed t (tsr t l)
   unfolding tsr
-  tsr-sheds l = fork (Shed t) l (λ e. tresume-sheds (t .control .state)) (λ e. tsuspend-sheds (t .control .state))
+  tsr-sheds l = fork (Shed t) l (λ e. tresume-sheds (t .control .msr .state)) (λ e. tsuspend-sheds (t .control .msr .state))
 
   tcheck-sheds : (bf : ℕ) → Shed t (tcheck t bf)
   unfolding tcheck
@@ -143,57 +138,47 @@ module _ (t : Thread) where
   unfolding meets-own
   meets-own-sheds i = fork (Shed t) (transaction.touches (t .transaction) (transaction.line i)) (λ e. dooms-sheds t _) (λ e. inl refl)
 
--- ---- what an event leaves: its transaction kept, emptied, or with an access that does not overflow
+-- ---- what an effect leaves: its transaction kept, emptied, or with an access to the line that it touches
 
-data Leaves (e : Event) (t : Thread) : Transaction → Type 0 where
-  shed : {y : Transaction} → Sheds (t .transaction) y → Leaves e t y
-  loaded : (rt i : ℕ) → e ≡ Ld rt i → overflows e t ≡ false → Leaves e t (transaction.join (t .transaction) i)
-  stored : (ra i v : ℕ) → e ≡ Std ra i → overflows e t ≡ false → Leaves e t (transaction.store (t .transaction) i v)
+data Leaves (t : Thread) (f : Effect) : Type 0 where
+  shed : Sheds (t .transaction) (f .thread .transaction) → Leaves t f
+  loaded : (i : ℕ) → transaction.line i < lines → f .thread .transaction ≡ transaction.join (t .transaction) i → Loads f (transaction.line i) → Leaves t f
+  stored : (i v : ℕ) → transaction.line i < lines → f .thread .transaction ≡ transaction.store (t .transaction) i v → Stores f (transaction.line i) → Leaves t f
 
-module _ (t : Thread) (r i : ℕ) (mem : List ℕ) where
-  ld-leaves : (s : State) → t .control .state ≡ s → Leaves (Ld r i) t (ld s t r i mem .thread .transaction)
-  unfolding ld overflows
-  ld-leaves N p = shed (inl refl)
-  ld-leaves T p = go (ld-overflows T t i) refl
-    where
-      go : (b : Bool) → ld-overflows T t i ≡ b
-          → Leaves (Ld r i) t (cond b (fails t cause-footprint) (takes (cond (tracked t) (joins t i) t) r i mem) .thread .transaction)
-      go true o = shed (fails-sheds t _)
-      go false o =
-          fork (λ (u : Thread). Leaves (Ld r i) t (u .transaction)) (tracked t)
-          (λ e. loaded r i refl (ap (λ (s : State). ld-overflows s t i) p ∙ o)) (λ e. shed (inl refl))
-  ld-leaves S p = shed (inl refl)
+module _ (t : Thread) (i : ℕ) (below : transaction.line i < lines) where
+  ld-leaves : (s : State) (rt : ℕ) (mem : List ℕ) → Leaves t (ld s t rt i mem)
+  unfolding ld
+  ld-leaves N rt mem = shed (inl refl)
+  ld-leaves T rt mem =
+      fork (Leaves t) (ld-overflows t i) (λ o. shed (fails-sheds t _))
+      (λ o. fork (λ (u : Thread). Leaves t (loads (takes u rt i mem) i)) (tracked t) (λ e. loaded i below refl refl) (λ e. shed (inl refl)))
+  ld-leaves S rt mem = shed (inl refl)
 
-  std-leaves : (s : State) (v : ℕ) → t .control .state ≡ s → Leaves (Std r i) t (std s t v i mem .did .thread .transaction)
-  unfolding std logs overflows
-  std-leaves N v p = shed (inl refl)
-  std-leaves T v p = go (std-overflows T t i) refl
-    where
-      go : (b : Bool) → std-overflows T t i ≡ b
-          → Leaves (Std r i) t (cond b (fails t cause-footprint) (passes (with-transaction t (transaction.store (t .transaction) i v))) .thread .transaction)
-      go true o = shed (fails-sheds t _)
-      go false o = stored r i v refl (ap (λ (s : State). std-overflows s t i) p ∙ o)
-  std-leaves S v p = shed (meets-own-sheds t i)
+  std-leaves : (s : State) (v : ℕ) → Leaves t (std s t v i)
+  unfolding std logs
+  std-leaves N v = shed (inl refl)
+  std-leaves T v = fork (Leaves t) (std-overflows t i) (λ o. shed (fails-sheds t _)) (λ o. stored i v below refl refl)
+  std-leaves S v = shed (meets-own-sheds t i)
 
-own-leaves : (e : Event) (t : Thread) (mem : List ℕ) → Leaves e t (own e t mem .did .thread .transaction)
-unfolding own treclaim trechkpt mtspr mfspr addi interrupt host transaction.discard
-own-leaves (Tbegin r) t mem = shed (tbegin-sheds t (t .control .state) r)
-own-leaves (Tend a) t mem = shed (tend-sheds t (t .control .state) a mem)
-own-leaves (Tabort ra) t mem = shed (tabort-sheds t (t .control .state) _)
-own-leaves (Tabortwc to ra rb) t mem = shed (tabort-if-sheds t _)
-own-leaves (Tabortdc to ra rb) t mem = shed (tabort-if-sheds t _)
-own-leaves (Tsr l) t mem = shed (tsr-sheds t l)
-own-leaves (Tcheck bf) t mem = shed (tcheck-sheds t bf)
-own-leaves (Treclaim ra) t mem = shed (inr refl)
-own-leaves Trechkpt t mem = shed (inl refl)
-own-leaves (Mtspr spr ra) t mem = shed (inl refl)
-own-leaves (Mfspr rt spr) t mem = shed (inl refl)
-own-leaves (Ld rt i) t mem = ld-leaves t rt i mem (t .control .state) refl
-own-leaves (Std ra i) t mem = std-leaves t ra i mem (t .control .state) _ refl
-own-leaves (Addi rt ra si) t mem = shed (inl refl)
-own-leaves Disallowed t mem = shed (disallowed-sheds t (t .control .state))
-own-leaves Interrupt t mem = shed (inl refl)
-own-leaves (Host pr tm) t mem = shed (inl refl)
+effect-leaves : (e : Event) (t : Thread) (mem : List ℕ) → memory-sized (length mem) ≡ true → operands-right e (length mem) ≡ true → Leaves t (effect e t mem)
+unfolding effect operands-right treclaim trechkpt mtspr mfspr addi interrupt host transaction.discard
+effect-leaves (Tbegin r) t mem z o = shed (tbegin-sheds t (t .control .msr .state) r)
+effect-leaves (Tend a) t mem z o = shed (tend-sheds t (t .control .msr .state) a)
+effect-leaves (Tabort ra) t mem z o = shed (tabort-sheds t (t .control .msr .state) _)
+effect-leaves (Tabortwc to ra rb) t mem z o = shed (tabort-if-sheds t _)
+effect-leaves (Tabortdc to ra rb) t mem z o = shed (tabort-if-sheds t _)
+effect-leaves (Tsr l) t mem z o = shed (tsr-sheds t l)
+effect-leaves (Tcheck bf) t mem z o = shed (tcheck-sheds t bf)
+effect-leaves (Treclaim ra) t mem z o = shed (inr refl)
+effect-leaves Trechkpt t mem z o = shed (inl refl)
+effect-leaves (Mtspr spr ra) t mem z o = shed (inl refl)
+effect-leaves (Mfspr rt spr) t mem z o = shed (inl refl)
+effect-leaves (Ld rt i) t mem z o = ld-leaves t i (line-below i _ z (access-in rt i _ o .1)) (t .control .msr .state) rt mem
+effect-leaves (Std ra i) t mem z o = std-leaves t i (line-below i _ z (access-in ra i _ o .1)) (t .control .msr .state) _
+effect-leaves (Addi rt ra si) t mem z o = shed (inl refl)
+effect-leaves Disallowed t mem z o = shed (disallowed-sheds t (t .control .msr .state))
+effect-leaves Interrupt t mem z o = shed (inl refl)
+effect-leaves (Host pr tm) t mem z o = shed (inl refl)
 
 -- ---- the lines of what is left
 
@@ -202,46 +187,36 @@ added : (a : Bool) (l m : ℕ) → (a || eqb l m) ≡ true → (a ≡ true) ⊎ 
 added true l m p = inl refl
 added false l m p = inr (eqb-true l m p)
 
-module _ (e : Event) (t : Thread) (mem : List ℕ) (z : memory-sized (length mem) ≡ true) (h : thread-valid t (length mem) ≡ true) (o : operands-right e (length mem) ≡ true) where
-  shaped : Shaped (t .transaction)
-  shaped = valid-shaped t (length mem) h
-
-  ld-line : (rt i : ℕ) → e ≡ Ld rt i → transaction.line i < lines
-  unfolding operands-right
-  ld-line rt i q = line-below i (length mem) z (access-in rt i (length mem) (rw q at o) .1)
-
-  std-line : (ra i : ℕ) → e ≡ Std ra i → transaction.line i < lines
-  unfolding operands-right
-  std-line ra i q = line-below i (length mem) z (access-in ra i (length mem) (rw q at o) .1)
-
+module _ (t : Thread) (f : Effect) (shaped : Shaped (t .transaction)) where
   -- what such a transaction adds to the write set, and to either set
-  leaves-writes : (y : Transaction) (l : ℕ) → Leaves e t y → lineset.has (y .writes) l ≡ true → (lineset.has (t .transaction .writes) l ≡ true) ⊎ Stores e t l
-  leaves-writes y l (shed s) p = inl (sheds-writes (t .transaction) y l s p)
-  leaves-writes y l (loaded rt i q f) p = inl p
-  leaves-writes y l (stored ra i v q f) p =
-      ⊎-elim inl (λ k. inr (record { ra = ra; index = i; is = q; line = k; made = f }))
-      (added (lineset.has (t .transaction .writes) l) l (transaction.line i) (sym (store-has (t .transaction) i v l shaped (std-line ra i q)) ∙ p))
+  leaves-writes : (l : ℕ) → Leaves t f → lineset.has (f .thread .transaction .writes) l ≡ true → (lineset.has (t .transaction .writes) l ≡ true) ⊎ Stores f l
+  leaves-writes l (shed s) p = inl (sheds-writes (t .transaction) _ l s p)
+  leaves-writes l (loaded i b q k) p = inl (rw q at p)
+  leaves-writes l (stored i v b q k) p =
+      ⊎-elim inl (λ m. inr (rw m k))
+      (added (lineset.has (t .transaction .writes) l) l (transaction.line i) (sym (store-has (t .transaction) i v l shaped b) ∙ (rw q at p)))
 
-  leaves-touches : (y : Transaction) (l : ℕ) → Leaves e t y → transaction.touches y l ≡ true
-      → (transaction.touches (t .transaction) l ≡ true) ⊎ (Stores e t l ⊎ Loads e t l)
-  leaves-touches y l (shed s) p = inl (sheds-touches (t .transaction) y l s p)
-  leaves-touches y l (loaded rt i q f) p =
+  leaves-touches : (l : ℕ) → Leaves t f → transaction.touches (f .thread .transaction) l ≡ true
+      → (transaction.touches (t .transaction) l ≡ true) ⊎ (Stores f l ⊎ Loads f l)
+  leaves-touches l (shed s) p = inl (sheds-touches (t .transaction) _ l s p)
+  leaves-touches l (loaded i b q k) p =
       let r = lineset.has (t .transaction .reads) l in
       let w = lineset.has (t .transaction .writes) l in
-      ⊎-elim (λ k. inl (or-comm r w ∙ k)) (λ k. inr (inr (record { rt = rt; index = i; is = q; line = k; made = f })))
+      ⊎-elim (λ m. inl (or-comm r w ∙ m)) (λ m. inr (inr (rw m k)))
       (added (w || r) l (transaction.line i)
-      (or-assoc w r _ ∙ or-comm w _ ∙ ap (λ (b : Bool). b || w) (sym (join-has (t .transaction) i l shaped (ld-line rt i q))) ∙ p))
-  leaves-touches y l (stored ra i v q f) p =
+      (or-assoc w r _ ∙ or-comm w _ ∙ ap (λ (c : Bool). c || w) (sym (join-has (t .transaction) i l shaped b)) ∙ (rw q at p)))
+  leaves-touches l (stored i v b q k) p =
       let r = lineset.has (t .transaction .reads) l in
       let w = lineset.has (t .transaction .writes) l in
-      ⊎-elim inl (λ k. inr (inl (record { ra = ra; index = i; is = q; line = k; made = f })))
+      ⊎-elim inl (λ m. inr (inl (rw m k)))
       (added (r || w) l (transaction.line i)
       (or-assoc r w _
-      ∙ (λ j. lineset.has (sym (store-reads (t .transaction) i v) j) l || sym (store-has (t .transaction) i v l shaped (std-line ra i q)) j) ∙ p))
+      ∙ (λ j. lineset.has (sym (store-reads (t .transaction) i v) j) l || sym (store-has (t .transaction) i v l shaped b) j) ∙ (rw q at p)))
 
-  pub own-writes : (l : ℕ) → lineset.has (own e t mem .did .thread .transaction .writes) l ≡ true → (lineset.has (t .transaction .writes) l ≡ true) ⊎ Stores e t l
-  own-writes l p = leaves-writes _ l (own-leaves e t mem) p
+module _ (e : Event) (t : Thread) (mem : List ℕ) (z : memory-sized (length mem) ≡ true) (h : thread-valid t (length mem) ≡ true) (o : operands-right e (length mem) ≡ true) where
+  pub effect-writes : (l : ℕ) → lineset.has (effect e t mem .thread .transaction .writes) l ≡ true → (lineset.has (t .transaction .writes) l ≡ true) ⊎ Stores (effect e t mem) l
+  effect-writes l p = leaves-writes t _ (valid-shaped t (length mem) h) l (effect-leaves e t mem z o) p
 
-  pub own-touches : (l : ℕ) → transaction.touches (own e t mem .did .thread .transaction) l ≡ true
-      → (transaction.touches (t .transaction) l ≡ true) ⊎ (Stores e t l ⊎ Loads e t l)
-  own-touches l p = leaves-touches _ l (own-leaves e t mem) p
+  pub effect-touches : (l : ℕ) → transaction.touches (effect e t mem .thread .transaction) l ≡ true
+      → (transaction.touches (t .transaction) l ≡ true) ⊎ (Stores (effect e t mem) l ⊎ Loads (effect e t mem) l)
+  effect-touches l p = leaves-touches t _ (valid-shaped t (length mem) h) l (effect-leaves e t mem z o) p

@@ -69,7 +69,7 @@ zeros-small n = all-from _ 7 (λ k b. go k (decLt k n))
     go k (no o) = rw (List·getD-eq-default {A = ℕ} (replicate n 0) 0 {n = k} (simp length-replicate (omega arith)))
 
 -- the thread stays valid
-thread-erased : (t : Thread) (len : ℕ) → t .control .state ≡ T → thread-valid t len ≡ true → thread-valid (erase-in T t) len ≡ true
+thread-erased : (t : Thread) (len : ℕ) → t .control .msr .state ≡ T → thread-valid t len ≡ true → thread-valid (erase-in T t) len ≡ true
 unfolding erase-in cr-small
 thread-erased t len p h =
     let r = right T t len p h in
@@ -92,7 +92,7 @@ thread-erased t len p h =
     })
 
 -- the thread and its erasure are alike
-erased-alike : (t : Thread) → t .control .state ≡ T → AlikeThread t (erase-in T t)
+erased-alike : (t : Thread) → t .control .msr .state ≡ T → AlikeThread t (erase-in T t)
 unfolding erase-in
 erased-alike t p =
     record {
@@ -105,7 +105,7 @@ erased-alike t p =
       addresses = λ n. sym (ap (λ (e : Entry). e .index) (entry-erased (t .transaction .log) n));
     }
 
-module _ (w : ℕ) (m : Machine) (p : thread (m .threads) w .control .state ≡ T) where
+module _ (w : ℕ) (m : Machine) (p : thread (m .threads) w .control .msr .state ≡ T) where
   -- the threads of the erasure
   erased-own : thread (erase w m .threads) w ≡ erase-in T (thread (m .threads) w)
   unfolding erase

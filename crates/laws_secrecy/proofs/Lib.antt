@@ -1,4 +1,4 @@
-pub mod Own
+pub mod Effects
 pub mod Struck
 pub mod Step
 pub mod Secrecy

@@ -21,7 +21,7 @@ use Rattle.run.specs.Run.{Result, result, goes-on, record-at, counted, one, run
 use Rattle.run.specs.Steps.{fed, events}
 use Rattle.laws_secrecy.specs.Secrecy.{Alike, Agree, Until}
 use Rattle.laws_secrecy.specs.Runs.{SameRun, RunsSame}
-use Rattle.laws_secrecy.proofs.Own.{both}
+use Rattle.laws_secrecy.proofs.Effects.{both}
 use Rattle.laws_secrecy.proofs.Step.{one-event}
 
 same : (r : Result) → SameRun r r
@@ -73,7 +73,7 @@ turns n tape k m mem x e = ap (λ (y : Read). turn y n tape k m mem) e
 
 module _ (w n : ℕ) (tape : List ℕ) (k : ℕ) (ih : Rest w n tape (k + 1)) (a : ℕ) (m m' : Machine) (mem : List ℕ)
     (h : valid m (length mem) ≡ true) (h' : valid m' (length mem) ≡ true) (l : Alike w m m') where
-  open-here : in-t (thread (m .threads) w .control .state) ≡ true
+  open-here : in-t (thread (m .threads) w .control .msr .state) ≡ true
   open-here = ap in-t (l .own .transactional)
 
   turn-same : (x : Read) → Until step w (fed x ++ events tape (k + 1) n) (outcome a m mem) → SameRun (turn x n tape k m mem) (turn x n tape k m' mem)

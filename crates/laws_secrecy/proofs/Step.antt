@@ -10,14 +10,17 @@ use lib.Dec.{eqb, leb, ltb}
 use lib.ListN.{length, List·getD-eq-default}
 use lib.Seq.{ext-getD}
 use borrow.Author.Tests.{eq-eqb, eqb-true, ltb-true, not-true}
+use Rattle.transaction.specs.Transaction.{written}
+use Rattle.transaction.specs.declared.Touch.{Touch}
+use Rattle.transaction.specs.declared.Transaction.{Transaction}
 use Rattle.thread.specs.Thread.{failed}
 use Rattle.thread.specs.declared.State.the-variants.{T}
 use Rattle.thread.specs.declared.Control.{Control}
 use Rattle.thread.specs.declared.Thread.{Thread}
+use Rattle.thread.specs.declared.Effect.{Effect}
 use Rattle.event.specs.Event.{kind, operands-right}
 use Rattle.event.specs.declared.Event.{Event}
-use Rattle.power_common.specs.Common.{Ran}
-use Rattle.power_effect.specs.Events.{overflows, own}
+use Rattle.power_effect.specs.Effects.{effect}
 use Rattle.machine.specs.Machine.{thread, no-thread}
 use Rattle.machine.specs.Valid.{thread-valid, zero-state, valid}
 use Rattle.refusal.specs.Refusal.{in-t, refused-there, refused-later, refusal}
@@ -33,20 +36,20 @@ use Rattle.laws_keeping.proofs.Others.{Fits}
 use Rattle.laws_keeping.proofs.Parts.{Right, valid-right}
 use Rattle.laws_secrecy.specs.Secrecy.{Alike, tells, Agree}
 use Rattle.laws_secrecy.specs.Corollaries.{OneEvent}
-use Rattle.laws_secrecy.proofs.Own.{both, overflows-alike, own-alike}
+use Rattle.laws_secrecy.proofs.Effects.{effect-alike}
 use Rattle.laws_secrecy.proofs.Struck.{At, at-control, Near, set-near, others-near}
 
 -- a thread in T is there, below the count and valid: what is not there, and a record past the count, is in N
-pub open-there : (ts : List Thread) (w : ℕ) → thread ts w .control .state ≡ T → w < length ts
+pub open-there : (ts : List Thread) (w : ℕ) → thread ts w .control .msr .state ≡ T → w < length ts
 open-there ts w p = go (decLt w (length ts))
   where
     go : Dec (w < length ts) → w < length ts
     go (yes b) = b
     go (no o) =
         let d = List·getD-eq-default ts no-thread {n = w} (omega arith) in
-        absurd (false≢true (ap (λ (t : Thread). in-t (t .control .state)) (sym d) ∙ ap in-t p))
+        absurd (false≢true (ap (λ (t : Thread). in-t (t .control .msr .state)) (sym d) ∙ ap in-t p))
 
-pub open-below : (m : Machine) (len w : ℕ) → valid m len ≡ true → thread (m .threads) w .control .state ≡ T → w < m .count
+pub open-below : (m : Machine) (len w : ℕ) → valid m len ≡ true → thread (m .threads) w .control .msr .state ≡ T → w < m .count
 open-below m len w h p = go (ltb w (m .count)) refl (r .each w (omega (arith, r .four, open-there (m .threads) w p)))
   where
     r : Right m len
@@ -56,14 +59,15 @@ open-below m len w h p = go (ltb w (m .count)) refl (r .each w (omega (arith, r 
     go true e f = ltb-true w _ e
     go false e f = absurd (false≢true (sym (ap zero-state p) ∙ zero-in-n _ f))
 
-pub open-valid : (m : Machine) (len w : ℕ) → valid m len ≡ true → thread (m .threads) w .control .state ≡ T → thread-valid (thread (m .threads) w) len ≡ true
+pub open-valid : (m : Machine) (len w : ℕ) → valid m len ≡ true → thread (m .threads) w .control .msr .state ≡ T → thread-valid (thread (m .threads) w) len ≡ true
 open-valid m len w h p = valid-thread m len h w (open-below m len w h p)
 
--- what an event leaves of two threads v
-record RanAt (w v : ℕ) (a b : Ran) : Type 0 where
-  answer : a .did .answer ≡ b .did .answer
-  memory : a .memory ≡ b .memory
-  thread : At w v (a .did .thread) (b .did .thread)
+-- what an event does on two threads v whose transactions were x and y: one answer, one touch, one memory
+record EffectAt (w v : ℕ) (mem : List ℕ) (x y : Transaction) (a b : Effect) : Type 0 where
+  answer : a .answer ≡ b .answer
+  touch : a .touch ≡ b .touch
+  memory : written (a .write) x mem ≡ written (b .write) y mem
+  thread : At w v (a .thread) (b .thread)
 
 -- two machines of equal counts whose threads are near are equal or alike
 near-machines : (w : ℕ) (m n : Machine) → m .count ≡ n .count → Near w (m .threads) (n .threads) → (m ≡ n) ⊎ Alike w m n
@@ -98,48 +102,47 @@ module _ (w : ℕ) (m n : Machine) (mem : List ℕ) (right : valid m (length mem
   here = open-valid m _ w right (a .own .transactional)
 
   here' : thread-valid (thread (n .threads) w) (length mem) ≡ true
-  here' = open-valid n _ w right' (ap (λ (k : Control). k .state) (sym (a .own .control)) ∙ a .own .transactional)
+  here' = open-valid n _ w right' (ap (λ (k : Control). k .msr .state) (sym (a .own .control)) ∙ a .own .transactional)
 
   live : failed (thread (m .threads) w .control) ≡ false
   live = live-unfailed-t _ _ (a .own .transactional) here
 
   -- an event that passes and does not tell
   module _ (v : ℕ) (e : Event) (passes : refusal m (length mem) v e ≡ 0) (quiet : v ≡ w → tells e (thread (m .threads) w) ≡ false) where
-    -- on its own thread, whether its access overflows, and on the others
-    ran-at : RanAt w v (own e (thread (m .threads) v) mem) (own e (thread (n .threads) v) mem)
-    ran-at = go (ℕ-discrete v w)
+    -- what it does
+    abbrev Does : ℕ → Type 0
+    Does k =
+        EffectAt w k mem (thread (m .threads) k .transaction) (thread (n .threads) k .transaction) (effect e (thread (m .threads) k) mem)
+        (effect e (thread (n .threads) k) mem)
+
+    effect-at : Does v
+    unfolding written
+    effect-at = go (ℕ-discrete v w)
       where
-        go : Dec (v ≡ w) → RanAt w v (own e (thread (m .threads) v) mem) (own e (thread (n .threads) v) mem)
+        go : Dec (v ≡ w) → Does v
         go (yes p) =
             let o = rw p at passes in
-            let h = own-alike (a .own) e mem (valid-shaped _ _ here .log ∙ sym (valid-shaped _ _ here' .log)) live (quiet p) (passed-there m _ w e (sym (refusal-valid m _ w e right) ∙ o)) in
-            subst (λ (k : ℕ). RanAt w k (own e (thread (m .threads) k) mem) (own e (thread (n .threads) k) mem)) (sym p)
-            (record { answer = h .answer; memory = h .memory; thread = record { own = λ q. h .threads; other = λ d. absurd (d refl) } })
+            let h = effect-alike (a .own) e mem (valid-shaped _ _ here .log ∙ sym (valid-shaped _ _ here' .log)) live (quiet p) (passed-there m _ w e (sym (refusal-valid m _ w e right) ∙ o)) in
+            subst Does (sym p)
+            (record { answer = h .answer; touch = h .touch; memory = simp (h .unwritten, h .unwritten'); thread = record { own = λ q. h .threads; other = λ d. absurd (d refl) } })
         go (no d) =
             let q = a .others v d in
             record {
-              answer = ap (λ (t : Thread). own e t mem .did .answer) q;
-              memory = ap (λ (t : Thread). own e t mem .memory) q;
-              thread = record { own = λ p. absurd (d p); other = λ d. ap (λ (t : Thread). own e t mem .did .thread) q };
+              answer = ap (λ (t : Thread). effect e t mem .answer) q;
+              touch = ap (λ (t : Thread). effect e t mem .touch) q;
+              memory = ap (λ (t : Thread). written (effect e t mem .write) (t .transaction) mem) q;
+              thread = record { own = λ p. absurd (d p); other = λ d. ap (λ (t : Thread). effect e t mem .thread) q };
             }
 
-    overflows-at : overflows e (thread (m .threads) v) ≡ overflows e (thread (n .threads) v)
-    overflows-at = go (ℕ-discrete v w)
-      where
-        go : Dec (v ≡ w) → overflows e (thread (m .threads) v) ≡ overflows e (thread (n .threads) v)
-        go (yes p) = rw p (overflows-alike (a .own) e)
-        go (no d) = ap (overflows e) (a .others v d)
-
-    others-after : Near w (cond (overflows e (thread (m .threads) v)) (m .threads) (others e (m .threads) v))
-        (cond (overflows e (thread (n .threads) v)) (n .threads) (others e (n .threads) v))
+    others-after : Near w (others (effect e (thread (m .threads) v) mem .touch) (m .threads) v) (others (effect e (thread (n .threads) v) mem .touch) (n .threads) v)
     others-after =
-        subst (λ (b : Bool). Near w (cond (overflows e (thread (m .threads) v)) (m .threads) (others e (m .threads) v)) (cond b (n .threads) (others e (n .threads) v))) overflows-at
-        (both (Near w) (overflows e (thread (m .threads) v)) (λ p. near) (λ p. others-near w (m .threads) (n .threads) near live v e))
+        subst (λ (k : Touch). Near w (others (effect e (thread (m .threads) v) mem .touch) (m .threads) v) (others k (n .threads) v)) (effect-at .touch)
+        (others-near w (m .threads) (n .threads) near live v _)
 
     perform-agree : (perform m mem v e .done .answer ≡ perform n mem v e .done .answer) × Agree w (perform m mem v e) (perform n mem v e)
     unfolding perform
     perform-agree =
-        (ran-at .answer, record { memory = ran-at .memory; machines = near-machines w _ _ (a .count) (set-near others-after v (ran-at .thread)) })
+        (effect-at .answer, record { memory = effect-at .memory; machines = near-machines w _ _ (a .count) (set-near others-after v (effect-at .thread)) })
 
 pub one-event : OneEvent
 one-event w m n mem v e right right' a h = go (eqb (refusal m (length mem) v e) 0) refl

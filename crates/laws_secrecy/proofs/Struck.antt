@@ -1,6 +1,6 @@
 -- The threads of two machines alike except for thread w, struck by an access.
-use mathlib.Core.Path.{_≡_, sym, ap, _∙_, subst}
-use mathlib.Core.Bool.{Bool, true, false}
+use mathlib.Core.Path.{_≡_, refl, sym, ap, _∙_, subst}
+use mathlib.Core.Bool.{Bool, true, false, cond}
 use mathlib.Core.Logic.{inl, inr, ⊎-elim}
 use mathlib.Core.List.{List}
 use Prim.Native.Nat.{ℕ, zero, suc}
@@ -8,26 +8,37 @@ use native.Mathlib.Decide.{ℕ-discrete}
 use lib.Dec.{eqb}
 use lib.ListN.{length, set, length-set}
 use Rattle.base.specs.Limits.{most-threads}
-use Rattle.transaction.specs.Transaction.{line}
-use Rattle.thread.specs.Thread.{failed}
+use Rattle.transaction.specs.declared.Cause.{Cause}
+use Rattle.transaction.specs.declared.Entry.{Entry}
+use Rattle.transaction.specs.declared.Touch.{Touch}
+use Rattle.transaction.specs.declared.Touch.the-variants.{Untouched, Load, Store}
+use Rattle.transaction.specs.declared.Transaction.{Transaction}
+use Rattle.thread.specs.Thread.{failed, felled}
 use Rattle.thread.specs.declared.State.{State}
+use Rattle.thread.specs.declared.State.the-variants.{T}
 use Rattle.thread.specs.declared.Control.{Control}
 use Rattle.thread.specs.declared.Thread.{Thread}
-use Rattle.event.specs.declared.Event.{Event}
-use Rattle.event.specs.declared.Event.the-variants.{Tbegin, Tend, Tabort, Tabortwc, Tabortdc, Tsr, Tcheck, Treclaim, Trechkpt, Mtspr, Mfspr, Ld, Std, Addi, Disallowed, Interrupt, Host}
 use Rattle.machine.specs.Machine.{thread, no-thread}
-use Rattle.conflict.specs.Conflict.{hits, conflict-cause, struck, strike, access, others}
+use Rattle.conflict.specs.Conflict.{hits, conflict-cause, struck, strike, others}
 use Rattle.laws_secrecy.specs.Secrecy.{AlikeThread}
-use Rattle.laws_secrecy.proofs.Own.{Even, both, set-both, beside, is-beside, failure-same}
+use Rattle.laws_secrecy.proofs.Effects.{Even, both, set-both, beside, is-beside, failure-same}
+
+-- what is hit is told by the sets alone
+hits-same : (x : Transaction) (es : List Entry) (touch : Touch) → hits x touch ≡ hits (record { reads = x .reads; writes = x .writes; count = x .count; log = es }) touch
+unfolding hits
+hits-same x es Untouched = refl
+hits-same x es (Load l) = refl
+hits-same x es (Store l) = refl
 
 -- another thread's access strikes both of two threads alike, which makes them equal, or neither
-struck-alike : {t u : Thread} → AlikeThread t u → (stores : Bool) (l cause : ℕ) → failed (t .control) ≡ false
-    → Even (struck (t .control .state) t stores l cause) (struck (u .control .state) u stores l cause)
-unfolding struck
-struck-alike {t} {u} a stores l cause z =
-    subst (λ (x : Thread). Even (struck (t .control .state) t stores l cause) (struck (x .control .state) x stores l cause)) (is-beside a)
-    (subst (λ (s : State). Even (struck s t stores l cause) (struck s y stores l cause)) (sym (a .transactional))
-    (both Even (hits (t .transaction) stores l) (λ p. inl (failure-same t (u .live) (u .cr0) (u .transaction .log) z cause false _)) (λ p. inr (subst (AlikeThread t) (sym (is-beside a)) a))))
+struck-alike : {t u : Thread} → AlikeThread t u → (touch : Touch) (cause : Cause) → failed (t .control) ≡ false
+    → Even (struck (t .control .msr .state) t touch cause) (struck (u .control .msr .state) u touch cause)
+unfolding struck felled
+struck-alike {t} {u} a touch cause z =
+    subst (λ (x : Thread). Even (struck (t .control .msr .state) t touch cause) (struck (x .control .msr .state) x touch cause)) (is-beside a)
+    (subst (λ (s : State). Even (struck s t touch cause) (struck s y touch cause)) (sym (a .transactional))
+    (subst (λ (b : Bool). Even (struck T t touch cause) (cond b (felled T y cause) y)) (hits-same (t .transaction) (u .transaction .log) touch)
+    (both Even (hits (t .transaction) touch) (λ p. inl (failure-same t (u .live) (u .cr0) (u .transaction .log) z cause false _)) (λ p. inr (subst (AlikeThread t) (sym (is-beside a)) a)))))
   where
     y : Thread
     y = beside t (u .live) (u .cr0) (u .transaction .log)
@@ -56,46 +67,32 @@ set-near {w} {ts} {us} h v {t} {u} r =
 
 module _ (w : ℕ) (ts us : List Thread) (near : Near w ts us) (live : failed (thread ts w .control) ≡ false) where
   -- each thread struck
-  struck-at : (stores : Bool) (l cause v : ℕ)
-      → At w v (struck (thread ts v .control .state) (thread ts v) stores l cause) (struck (thread us v .control .state) (thread us v) stores l cause)
-  struck-at stores l cause v =
+  struck-at : (touch : Touch) (cause : Cause) (v : ℕ)
+      → At w v (struck (thread ts v .control .msr .state) (thread ts v) touch cause) (struck (thread us v .control .msr .state) (thread us v) touch cause)
+  struck-at touch cause v =
       record {
-        own = λ p. ⊎-elim (λ q. inl (ap hit q)) (λ a. struck-alike a stores l cause (rw p live)) (near .each v .own p);
+        own = λ p. ⊎-elim (λ q. inl (ap hit q)) (λ a. struck-alike a touch cause (rw p live)) (near .each v .own p);
         other = λ n. ap hit (near .each v .other n);
       }
     where
       hit : Thread → Thread
-      hit t = struck (t .control .state) t stores l cause
+      hit t = struck (t .control .msr .state) t touch cause
 
   -- an access by thread v
   module _ (v : ℕ) where
-    strike-near : (stores : Bool) (l cause n : ℕ) → Near w (strike ts v stores l cause n) (strike us v stores l cause n)
+    strike-near : (touch : Touch) (cause : Cause) (n : ℕ) → Near w (strike ts v touch cause n) (strike us v touch cause n)
     unfolding strike
-    strike-near stores l cause zero = near
-    strike-near stores l cause (suc n) =
-        both (Near w) (eqb n v) (λ p. strike-near stores l cause n) (λ p. set-near (strike-near stores l cause n) n (struck-at stores l cause n))
+    strike-near touch cause zero = near
+    strike-near touch cause (suc n) =
+        both (Near w) (eqb n v) (λ p. strike-near touch cause n) (λ p. set-near (strike-near touch cause n) n (struck-at touch cause n))
 
-    access-near : (stores : Bool) (i : ℕ) → Near w (access ts v stores i) (access us v stores i)
-    access-near stores i =
-        subst (λ (k : Control). Near w (access ts v stores i) (strike us v stores (line i) (conflict-cause (k .state)) most-threads)) (at-control (near .each v))
-        (strike-near stores (line i) _ most-threads)
+    access-near : (touch : Touch) → Near w (strike ts v touch (conflict-cause (thread ts v .control .msr .state)) most-threads) (strike us v touch (conflict-cause (thread us v .control .msr .state)) most-threads)
+    access-near touch =
+        subst (λ (k : Control). Near w (strike ts v touch (conflict-cause (thread ts v .control .msr .state)) most-threads) (strike us v touch (conflict-cause (k .msr .state)) most-threads)) (at-control (near .each v))
+        (strike-near touch _ most-threads)
 
-    pub others-near : (e : Event) → Near w (others e ts v) (others e us v)
+    pub others-near : (touch : Touch) → Near w (others touch ts v) (others touch us v)
     unfolding others
-    others-near (Tbegin r) = near
-    others-near (Tend a) = near
-    others-near (Tabort ra) = near
-    others-near (Tabortwc to ra rb) = near
-    others-near (Tabortdc to ra rb) = near
-    others-near (Tsr l) = near
-    others-near (Tcheck bf) = near
-    others-near (Treclaim ra) = near
-    others-near Trechkpt = near
-    others-near (Mtspr spr ra) = near
-    others-near (Mfspr rt spr) = near
-    others-near (Ld rt i) = access-near false i
-    others-near (Std ra i) = access-near true i
-    others-near (Addi rt ra si) = near
-    others-near Disallowed = near
-    others-near Interrupt = near
-    others-near (Host pr tm) = near
+    others-near Untouched = near
+    others-near (Load l) = access-near (Load l)
+    others-near (Store l) = access-near (Store l)

@@ -36,16 +36,16 @@ erase-in S t = t
 
 -- a machine with thread w so
 unfoldable pub erase : ℕ → Machine → Machine
-erase w m = with-threads m (set (m .threads) w (erase-in (thread (m .threads) w .control .state) (thread (m .threads) w)))
+erase w m = with-threads m (set (m .threads) w (erase-in (thread (m .threads) w .control .msr .state) (thread (m .threads) w)))
 
 -- a valid machine with thread w in T and its erasure are alike, and the erasure is valid
 abbrev pub Erased : Type 0
 Erased =
-    (w : ℕ) (m : Machine) (len : ℕ) → valid m len ≡ true → thread (m .threads) w .control .state ≡ T → Alike w m (erase w m) × (valid (erase w m) len ≡ true)
+    (w : ℕ) (m : Machine) (len : ℕ) → valid m len ≡ true → thread (m .threads) w .control .msr .state ≡ T → Alike w m (erase w m) × (valid (erase w m) len ≡ true)
 
 -- so one event that is allowed answers and leaves the same on both
 abbrev pub ErasedEvent : Type 0
 ErasedEvent =
-    (w : ℕ) (m : Machine) (mem : List ℕ) (v : ℕ) (e : Event) → valid m (length mem) ≡ true → thread (m .threads) w .control .state ≡ T
+    (w : ℕ) (m : Machine) (mem : List ℕ) (v : ℕ) (e : Event) → valid m (length mem) ≡ true → thread (m .threads) w .control .msr .state ≡ T
     → allowed w (from v e) (outcome 0 m mem) ≡ true
     → (step m mem v e .done .answer ≡ step (erase w m) mem v e .done .answer) × Agree w (step m mem v e) (step (erase w m) mem v e)

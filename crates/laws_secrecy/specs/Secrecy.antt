@@ -20,7 +20,7 @@ use Rattle.machine.specs.declared.Machine.{Machine}
 
 -- two threads alike except for their live registers (general registers and CR fields, CR0 too) and the values in their logs; both are Transactional
 pub record AlikeThread (t u : Thread) : Type 0 where
-  pub transactional : t .control .state ≡ T
+  pub transactional : t .control .msr .state ≡ T
   pub control : t .control ≡ u .control
   pub checkpoint : t .checkpoint ≡ u .checkpoint
   pub reads : t .transaction .reads ≡ u .transaction .reads
@@ -56,7 +56,7 @@ tells (Host pr tm) t = false
 
 -- the transaction of thread w is still open: it has not failed and was not reclaimed
 abbrev pub open-at : ℕ → Outcome → Bool
-open-at w o = in-t (thread (o .done .machine .threads) w .control .state)
+open-at w o = in-t (thread (o .done .machine .threads) w .control .msr .state)
 
 -- an event is allowed: another thread's, or refused and so not executed, or none that tells
 abbrev pub allowed : ℕ → Fed → Outcome → Bool

@@ -9,19 +9,19 @@ use lib.ListN.{length}
 use Rattle.base.specs.Below.{all-below, any-below, count-below}
 use Rattle.lines.specs.Lines as lineset
 use Rattle.transaction.specs.Transaction as transaction
-use Rattle.thread.specs.Thread.{recording, handling}
+use Rattle.thread.specs.Thread.{recording, handling, felled}
 use Rattle.event.specs.Event.{kind, operands-right}
 use Rattle.power_common.specs.Common.{fails, dooms}
 use Rattle.power_aborts.specs.Compare as compare
-use Rattle.power_access.specs.Access.{ld-overflows, std-overflows, ld, logs, meets-own, std}
+use Rattle.power_access.specs.Access.{ld, logs, meets-own, std}
 use Rattle.power_aborts.specs.Aborts.{tabort, tabort-if}
 use Rattle.power_begins.specs.Begins.{tbegin, tsuspend, tsr}
 use Rattle.power_plain.specs.Plain.{addi, disallowed, host}
-use Rattle.power_effect.specs.Events.{own, overflows}
+use Rattle.power_effect.specs.Effects.{effect}
 use Rattle.machine.specs.Machine.{fresh, fresh-thread}
 use Rattle.machine.specs.Valid as valid
 use Rattle.refusal.specs.Refusal.{bad-thing, refused-there, refused-later}
-use Rattle.conflict.specs.Conflict.{struck, strike, others}
+use Rattle.conflict.specs.Conflict.{hits, struck, strike, others}
 use Rattle.step.specs.Step.{Outcome, outcome, Fed, after, perform, step}
 use Rattle.refusal.proofs.Laws.{refusal-valid}
 use Rattle.laws_keeping.proofs.Keeping.{keeps}
@@ -58,12 +58,12 @@ told-same (f ∷ fs) (a ∷ rest) expects o v =
 computed : Bool
 unfolding all-below any-below count-below
     lineset.place lineset.empty lineset.has lineset.with lineset.meets lineset.footprint
-    transaction.empty transaction.discard transaction.lookup-in transaction.loaded transaction.crowded transaction.full transaction.store-at
-    recording handling kind operands-right fails dooms compare.picked compare.holds
-    own tbegin tabort tabort-if tsuspend tsr ld-overflows std-overflows overflows ld logs meets-own std addi disallowed host
+    transaction.empty transaction.discard transaction.lookup-in transaction.loaded transaction.crowded transaction.full transaction.store-at transaction.written
+    recording handling felled kind operands-right fails dooms compare.picked compare.holds
+    effect tbegin tabort tabort-if tsuspend tsr ld logs meets-own std addi disallowed host
     fresh fresh-thread
-    valid.sized valid.shaped valid.place-right valid.unused-zero valid.aligned valid.cr-small valid.fields-small valid.no-line valid.holds-nothing valid.live-rules valid.state-rules valid.indices-inside valid.line-inside valid.lines-inside valid.unlike valid.distinct valid.logs-line valid.line-logged valid.writes-logged valid.held-right valid.thread-valid valid.zero-gpr valid.zero-cr valid.zero-control valid.zero-thread valid.clash valid.clear-of valid.apart valid.thread-right valid.threads-right valid.valid
-    bad-thing refused-there refused-later struck strike others perform met all-met told-valid
+    valid.sized valid.shaped valid.place-right valid.unused-zero valid.aligned valid.cr-small valid.fields-small valid.no-line valid.holds-nothing valid.live-rules valid.state-rules valid.indices-inside valid.line-inside valid.lines-inside valid.unlike valid.distinct valid.logs-line valid.line-logged valid.writes-logged valid.held-right valid.thread-valid valid.zero-gpr valid.zero-cr valid.zero-msr valid.zero-failure valid.zero-control valid.zero-thread valid.clash valid.clear-of valid.apart valid.thread-right valid.threads-right valid.valid
+    bad-thing refused-there refused-later hits struck strike others perform met all-met told-valid
 computed = true
 
 -- a case of a valid machine: what is computed of it, and what is promised

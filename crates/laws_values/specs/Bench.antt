@@ -25,9 +25,9 @@ pub record Case : Type 0 where
   pub expects : List Expect
 
 unfoldable pub met : Outcome → Expect → Bool
-met o (texasr w v) = eqb (thread (o .done .machine .threads) w .control .texasr) v
-met o (tfiar w v) = eqb (thread (o .done .machine .threads) w .control .tfiar) v
-met o (tfhar w v) = eqb (thread (o .done .machine .threads) w .control .tfhar) v
+met o (texasr w v) = eqb (thread (o .done .machine .threads) w .control .failure .texasr) v
+met o (tfiar w v) = eqb (thread (o .done .machine .threads) w .control .failure .tfiar) v
+met o (tfhar w v) = eqb (thread (o .done .machine .threads) w .control .failure .tfhar) v
 met o (cr0 w v) = eqb (thread (o .done .machine .threads) w .cr0) v
 
 unfoldable pub all-met : Outcome → List Expect → Bool

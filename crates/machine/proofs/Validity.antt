@@ -49,5 +49,5 @@ module _ (m : Machine) (len : ℕ) (v : valid m len ≡ true) where
   valid-places w h =
       let t = thread (m .threads) w in
       let x = t .transaction in
-      let held = and-right (shaped t && aligned (t .control) && fields-small t && state-rules (t .control .state) t) (held-right x len) (valid-thread w h) in
+      let held = and-right (shaped t && aligned (t .control) && fields-small t && state-rules (t .control .msr .state) t) (held-right x len) (valid-thread w h) in
       unused-count x (and-left _ (indices-inside x len) (and-left _ (lines-inside x len) (and-left _ (distinct x) (and-left _ (writes-logged x) held))))

@@ -15,6 +15,8 @@ use Rattle.thread.specs.Thread.{failed}
 use Rattle.thread.specs.declared.Registers.{Registers}
 use Rattle.thread.specs.declared.State.{State}
 use Rattle.thread.specs.declared.State.the-variants.{N, T, S}
+use Rattle.thread.specs.declared.Msr.{Msr}
+use Rattle.thread.specs.declared.Failure.{Failure}
 use Rattle.thread.specs.declared.Control.{Control}
 use Rattle.thread.specs.declared.Thread.{Thread}
 use Rattle.machine.specs.Machine.{thread}
@@ -47,7 +49,7 @@ unused-zero x = leb (x .count) most-places && all-below (λ n. place-right (entr
 
 -- NIA and TFHAR are multiples of 4
 unfoldable pub aligned : Control → Bool
-aligned k = eqb (k .nia % 4) 0 && eqb (k .tfhar % 4) 0
+aligned k = eqb (k .nia % 4) 0 && eqb (k .failure .tfhar % 4) 0
 
 -- CR fields are below 16
 unfoldable pub cr-small : Registers → Bool
@@ -67,15 +69,15 @@ holds-nothing x = no-line (x .reads) && no-line (x .writes) && eqb (x .count) 0
 unfoldable pub live-rules : Thread → Bool
 live-rules t =
     not (failed (t .control))
-    && leb 1 (tl (t .control .texasr))
-    && leb (tl (t .control .texasr)) most-levels
+    && leb 1 (tl (t .control .failure .texasr))
+    && leb (tl (t .control .failure .texasr)) most-levels
     && leb (lineset.footprint (t .transaction .reads) (t .transaction .writes)) most-footprint
 
 -- what each state asks of TDOOMED, of FS and of what is held
 unfoldable pub state-rules : State → Thread → Bool
-state-rules N t = not (t .control .doomed) && holds-nothing (t .transaction)
-state-rules T t = not (t .control .doomed) && live-rules t
-state-rules S t = cond (t .control .doomed) (holds-nothing (t .transaction) && failed (t .control)) (live-rules t)
+state-rules N t = not (t .control .msr .doomed) && holds-nothing (t .transaction)
+state-rules T t = not (t .control .msr .doomed) && live-rules t
+state-rules S t = cond (t .control .msr .doomed) (holds-nothing (t .transaction) && failed (t .control)) (live-rules t)
 
 -- all indices and lines lie in memory
 unfoldable pub indices-inside : Transaction → ℕ → Bool
@@ -108,7 +110,7 @@ unfoldable pub held-right : Transaction → ℕ → Bool
 held-right x len = unused-zero x && indices-inside x len && lines-inside x len && distinct x && writes-logged x
 
 unfoldable pub thread-valid : Thread → ℕ → Bool
-thread-valid t len = shaped t && aligned (t .control) && fields-small t && state-rules (t .control .state) t && held-right (t .transaction) len
+thread-valid t len = shaped t && aligned (t .control) && fields-small t && state-rules (t .control .msr .state) t && held-right (t .transaction) len
 
 -- records that are no threads are zero
 unfoldable pub zero-gpr : Registers → Bool
@@ -125,9 +127,14 @@ zero-state N = true
 zero-state T = false
 zero-state S = false
 
+unfoldable pub zero-msr : Msr → Bool
+zero-msr m = not (m .pr) && not (m .tm) && not (m .doomed) && zero-state (m .state)
+
+unfoldable pub zero-failure : Failure → Bool
+zero-failure f = eqb (f .tfhar) 0 && eqb (f .tfiar) 0 && eqb (f .texasr) 0
+
 unfoldable pub zero-control : Control → Bool
-zero-control k =
-    eqb (k .nia) 0 && not (k .pr) && not (k .tm) && not (k .doomed) && eqb (k .tfhar) 0 && eqb (k .tfiar) 0 && eqb (k .texasr) 0 && zero-state (k .state)
+zero-control k = eqb (k .nia) 0 && zero-msr (k .msr) && zero-failure (k .failure)
 
 unfoldable pub zero-thread : Thread → Bool
 zero-thread t =

@@ -7,6 +7,8 @@ ghost use mathlib.Core.Path.{_≡_};
 ghost use Rattle.machine.specs.Machine.{fresh};
 use base::THREADS;
 use thread::Control;
+use thread::Failure;
+use thread::Msr;
 use thread::Registers;
 use thread::State;
 use thread::Thread;
@@ -27,13 +29,17 @@ pub fn fresh() -> Machine
     };
     let control = Control {
         nia: 0,
-        pr: true,
-        tm: true,
-        state: State::N,
-        doomed: false,
-        tfhar: 0,
-        tfiar: 0,
-        texasr: 0,
+        msr: Msr {
+            pr: true,
+            tm: true,
+            state: State::N,
+            doomed: false,
+        },
+        failure: Failure {
+            tfhar: 0,
+            tfiar: 0,
+            texasr: 0,
+        },
     };
     let t = Thread {
         live: zeros,

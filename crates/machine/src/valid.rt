@@ -51,7 +51,8 @@ fn aligned(k: Control) -> bool
     if k.nia % 4 != 0 {
         return false;
     }
-    k.tfhar % 4 == 0
+    let f = k.failure;
+    f.tfhar % 4 == 0
 }
 
 // CR fields 1 to 7 are below 16.
@@ -90,7 +91,8 @@ fn live_rules(t: Thread) -> bool
     if thread::failed(k) {
         return false;
     }
-    let level = thread::tl(k.texasr);
+    let f = k.failure;
+    let level = thread::tl(f.texasr);
     if level < 1 {
         return false;
     }
@@ -105,26 +107,27 @@ fn live_rules(t: Thread) -> bool
 
 // What each state asks.
 fn state_rules(t: Thread) -> bool
-    ensures { λ r. ⌜ r ≡ state-rules (t .control .state) t ⌝ }
+    ensures { λ r. ⌜ r ≡ state-rules (t .control .msr .state) t ⌝ }
 {
     let k = t.control;
-    let s = k.state;
+    let m = k.msr;
+    let s = m.state;
     let x = t.transaction;
     match s {
         State::N => {
-            if k.doomed {
+            if m.doomed {
                 return false;
             }
             held::holds_nothing(x)
         }
         State::T => {
-            if k.doomed {
+            if m.doomed {
                 return false;
             }
             live_rules(t)
         }
         State::S => {
-            if k.doomed {
+            if m.doomed {
                 if !held::holds_nothing(x) {
                     return false;
                 }

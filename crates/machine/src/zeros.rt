@@ -1,8 +1,10 @@
 // A thread record past the count: all zero (document 01, "The machine").
 ghost use mathlib.Core.Path.{_≡_};
-ghost use Rattle.machine.specs.Valid.{zero-gpr, zero-cr, zero-registers, zero-control, zero-thread};
+ghost use Rattle.machine.specs.Valid.{zero-gpr, zero-cr, zero-registers, zero-msr, zero-failure, zero-control, zero-thread};
 use crate::held;
 use thread::Control;
+use thread::Failure;
+use thread::Msr;
 use thread::Registers;
 use thread::State;
 use thread::Thread;
@@ -42,36 +44,44 @@ fn zero_registers(r: Registers) -> bool
     zero_cr(r)
 }
 
+fn zero_msr(m: Msr) -> bool
+    ensures { λ r. ⌜ r ≡ zero-msr m ⌝ }
+{
+    if m.pr {
+        return false;
+    }
+    if m.tm {
+        return false;
+    }
+    if m.doomed {
+        return false;
+    }
+    let s = m.state;
+    match s {
+        State::N => true,
+        State::T => false,
+        State::S => false,
+    }
+}
+
+fn zero_failure(f: Failure) -> bool
+    ensures { λ r. ⌜ r ≡ zero-failure f ⌝ }
+{
+    (f.tfhar == 0) & (f.tfiar == 0) & (f.texasr == 0)
+}
+
 fn zero_control(k: Control) -> bool
     ensures { λ r. ⌜ r ≡ zero-control k ⌝ }
 {
     if k.nia != 0 {
         return false;
     }
-    if k.pr {
+    let m = k.msr;
+    if !zero_msr(m) {
         return false;
     }
-    if k.tm {
-        return false;
-    }
-    if k.doomed {
-        return false;
-    }
-    if k.tfhar != 0 {
-        return false;
-    }
-    if k.tfiar != 0 {
-        return false;
-    }
-    if k.texasr != 0 {
-        return false;
-    }
-    let s = k.state;
-    match s {
-        State::N => true,
-        State::T => false,
-        State::S => false,
-    }
+    let f = k.failure;
+    zero_failure(f)
 }
 
 // A thread record past the count: all zero.

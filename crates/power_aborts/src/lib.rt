@@ -2,20 +2,21 @@
 pub mod compare;
 
 ghost use mathlib.Core.Path.{_≡_};
-ghost use Prim.Native.Nat.{_<_, _^_};
+ghost use Prim.Native.Nat.{_<_};
 ghost use Rattle.power_common.specs.Common.{abort-cause};
 ghost use Rattle.power_aborts.specs.Aborts.{tabort, tabort-if, tabortwc, tabortdc};
 use power_common::Did;
 use thread::State;
 use thread::Thread;
+use transaction::Cause;
 
 // A cause recorded in T and S.
-fn abort(t: Thread, cause: u64) -> Did
-    requires { ⌜ cause < 2 ^ 32 ⌝ }
-    ensures { λ d. ⌜ d ≡ tabort (t .control .state) t cause ⌝ }
+fn abort(t: Thread, cause: Cause) -> Did
+    ensures { λ d. ⌜ d ≡ tabort (t .control .msr .state) t cause ⌝ }
 {
     let k = t.control;
-    let s = k.state;
+    let m = k.msr;
+    let s = m.state;
     match s {
         State::N => power_common::cr0_only(t),
         State::T => power_common::fails(t, cause),
@@ -29,7 +30,7 @@ fn abort(t: Thread, cause: u64) -> Did
 // tabort. (RA)
 pub fn tabort(t: Thread, ra: u8) -> Did
     requires { ⌜ ra < 32 ⌝ }
-    ensures { λ d. ⌜ d ≡ tabort (t .control .state) t (abort-cause t ra) ⌝ }
+    ensures { λ d. ⌜ d ≡ tabort (t .control .msr .state) t (abort-cause t ra) ⌝ }
 {
     abort(t, power_common::abort_cause(t, ra))
 }
@@ -39,7 +40,7 @@ fn tabort_if(t: Thread, held: bool) -> Did
     ensures { λ d. ⌜ d ≡ tabort-if t held ⌝ }
 {
     if held {
-        return abort(t, 1);
+        return abort(t, Cause::Abort(0));
     }
     power_common::cr0_only(t)
 }

@@ -1,32 +1,33 @@
 -- Loads and stores (document 01, "Loads, stores and conflicts": (a), (b) and (d); "Events" 12 and 13). (c) is in `conflict/specs/Conflict`.
 -- Clauses by state first.
 use Prim.Native.Nat.{ℕ}
-use mathlib.Core.Bool.{Bool, false, cond, _&&_}
+use mathlib.Core.Bool.{Bool, cond, _&&_}
 use mathlib.Core.List.{List}
-use lib.ListN.{set}
 use lib.Dec.{eqb}
 use Rattle.transaction.specs.Transaction as transaction
-use Rattle.thread.specs.Texasr.{rot, cause-footprint, cause-self}
+use Rattle.transaction.specs.declared.Cause.the-variants.{Footprint, OwnStore}
+use Rattle.transaction.specs.declared.Touch.the-variants.{Load, Store}
+use Rattle.transaction.specs.declared.Write.{Write}
+use Rattle.transaction.specs.declared.Write.the-variants.{Unwritten, Doubleword}
+use Rattle.thread.specs.Texasr.{rot}
 use Rattle.thread.specs.Thread.{with-transaction}
 use Rattle.thread.specs.declared.State.{State}
 use Rattle.thread.specs.declared.State.the-variants.{N, T, S}
 use Rattle.thread.specs.declared.Thread.{Thread}
-use Rattle.power_common.specs.Common.{Ran, ran, passes, put-gpr, fails, dooms}
+use Rattle.thread.specs.declared.Effect.{Effect}
+use Rattle.power_common.specs.Common.{doing, quiet, passes, put-gpr, fails, dooms}
 use Rattle.power_common.specs.declared.Did.{Did}
 
--- (a) overflow, only in T; under ROT a load is not tracked
+-- under ROT a load is not tracked
 abbrev pub tracked : Thread → Bool
-tracked t = eqb (rot (t .control .texasr)) 0
+tracked t = eqb (rot (t .control .failure .texasr)) 0
 
-unfoldable pub ld-overflows : State → Thread → ℕ → Bool
-ld-overflows N t i = false
-ld-overflows T t i = tracked t && transaction.load-overflows (t .transaction) i
-ld-overflows S t i = false
+-- (a) overflow, which only T has: the access is not made, and nothing is touched
+abbrev pub ld-overflows : Thread → ℕ → Bool
+ld-overflows t i = tracked t && transaction.load-overflows (t .transaction) i
 
-unfoldable pub std-overflows : State → Thread → ℕ → Bool
-std-overflows N t i = false
-std-overflows T t i = transaction.store-overflows (t .transaction) i
-std-overflows S t i = false
+abbrev pub std-overflows : Thread → ℕ → Bool
+std-overflows t i = transaction.store-overflows (t .transaction) i
 
 -- 12. ld (RT, index): (a), then (d): the log's value if one is there, else memory's; in T the line joins the read set unless ROT
 abbrev pub takes : Thread → ℕ → ℕ → List ℕ → Did
@@ -35,19 +36,27 @@ takes t rt i mem = passes (put-gpr t rt (transaction.load (t .transaction) mem i
 abbrev pub joins : Thread → ℕ → Thread
 joins t i = with-transaction t (transaction.join (t .transaction) i)
 
-unfoldable pub ld : State → Thread → ℕ → ℕ → List ℕ → Did
-ld N t rt i mem = takes t rt i mem
-ld T t rt i mem = cond (ld-overflows T t i) (fails t cause-footprint) (takes (cond (tracked t) (joins t i) t) rt i mem)
-ld S t rt i mem = takes t rt i mem
+abbrev pub loads : Did → ℕ → Effect
+loads d i = doing d (Load (transaction.line i)) Unwritten
+
+unfoldable pub ld : State → Thread → ℕ → ℕ → List ℕ → Effect
+ld N t rt i mem = loads (takes t rt i mem) i
+ld T t rt i mem = cond (ld-overflows t i) (quiet (fails t Footprint)) (loads (takes (cond (tracked t) (joins t i) t) rt i mem) i)
+ld S t rt i mem = loads (takes t rt i mem) i
 
 -- 13. std (RA, index): (a), then (b) where the suspended thread meets its own sets, then (d)
-unfoldable pub logs : Thread → ℕ → ℕ → Did
-logs t v i = cond (std-overflows T t i) (fails t cause-footprint) (passes (with-transaction t (transaction.store (t .transaction) i v)))
+abbrev pub stores : Did → ℕ → Write → Effect
+stores d i write = doing d (Store (transaction.line i)) write
+
+unfoldable pub logs : Thread → ℕ → ℕ → Effect
+logs t v i =
+    cond (std-overflows t i) (quiet (fails t Footprint))
+    (stores (passes (with-transaction t (transaction.store (t .transaction) i v))) i Unwritten)
 
 unfoldable pub meets-own : Thread → ℕ → Did
-meets-own t i = cond (transaction.touches (t .transaction) (transaction.line i)) (dooms t cause-self) (passes t)
+meets-own t i = cond (transaction.touches (t .transaction) (transaction.line i)) (dooms t OwnStore) (passes t)
 
-unfoldable pub std : State → Thread → ℕ → ℕ → List ℕ → Ran
-std N t v i mem = ran (passes t) (set mem i v)
-std T t v i mem = ran (logs t v i) mem
-std S t v i mem = ran (meets-own t i) (set mem i v)
+unfoldable pub std : State → Thread → ℕ → ℕ → Effect
+std N t v i = stores (passes t) i (Doubleword i v)
+std T t v i = logs t v i
+std S t v i = stores (meets-own t i) i (Doubleword i v)

@@ -4,19 +4,24 @@ ghost use Prim.Native.Nat.{_<_, _≤_};
 ghost use lib.ListN.{length};
 ghost use Rattle.base.specs.Limits.{lines, most-places};
 ghost use Rattle.transaction.specs.Transaction.{line, touches};
-ghost use Rattle.power_access.specs.Access.{tracked, takes, joins, ld, logs, meets-own, std};
+ghost use Rattle.power_access.specs.Access.{tracked, takes, joins, loads, ld, stores, logs, meets-own, std};
 use base::LINE;
 use power_common::Did;
+use thread::Effect;
 use thread::State;
 use thread::Thread;
+use transaction::Cause;
+use transaction::Touch;
 use transaction::Transaction;
+use transaction::Write;
 
 // Loads join the read set: ROT = 0.
 fn tracked(t: Thread) -> bool
     ensures { λ r. ⌜ r ≡ tracked t ⌝ }
 {
     let k = t.control;
-    thread::rot(k.texasr) == 0
+    let f = k.failure;
+    thread::rot(f.texasr) == 0
 }
 
 // The register takes what the thread sees at a doubleword.
@@ -44,60 +49,75 @@ fn joins(t: Thread, index: u32) -> Thread
     u
 }
 
+// A load's effect: its line is touched.
+fn loads(d: Did, index: u32) -> Effect
+    ensures { λ e. ⌜ e ≡ loads d index ⌝ }
+{
+    power_common::doing(d, Touch::Load(index as usize / LINE), Write::Unwritten)
+}
+
 // ld in T: the overflow is found before anything is done.
-fn ld_transactional(t: Thread, rt: u8, index: u32, mem: &[u64]) -> Did
+fn ld_transactional(t: Thread, rt: u8, index: u32, mem: &[u64]) -> Effect
     requires { ⌜ t .transaction .count ≤ most-places ⌝ }
     requires { ⌜ rt < 32 ⌝ }
     requires { ⌜ line index < lines ⌝ }
     requires { ⌜ index < length (now mem) ⌝ }
-    ensures { λ d. ⌜ d ≡ ld State.T t rt index (now (mem .entry)) ⌝ }
+    ensures { λ e. ⌜ e ≡ ld State.T t rt index (now (mem .entry)) ⌝ }
 {
     if tracked(t) {
         let x = t.transaction;
         if transaction::crowded(x, index as usize / LINE) {
-            return power_common::fails(t, thread::OVERFLOW);
+            return power_common::quiet(power_common::fails(t, Cause::Footprint));
         }
         let u = joins(t, index);
-        return takes(u, rt, index, mem);
+        return loads(takes(u, rt, index, mem), index);
     }
-    takes(t, rt, index, mem)
+    loads(takes(t, rt, index, mem), index)
 }
 
 // ld (RT, index)
-pub fn ld(t: Thread, rt: u8, index: u32, mem: &[u64]) -> Did
+pub fn ld(t: Thread, rt: u8, index: u32, mem: &[u64]) -> Effect
     requires { ⌜ t .transaction .count ≤ most-places ⌝ }
     requires { ⌜ rt < 32 ⌝ }
     requires { ⌜ line index < lines ⌝ }
     requires { ⌜ index < length (now mem) ⌝ }
-    ensures { λ d. ⌜ d ≡ ld (t .control .state) t rt index (now (mem .entry)) ⌝ }
+    ensures { λ e. ⌜ e ≡ ld (t .control .msr .state) t rt index (now (mem .entry)) ⌝ }
 {
     let k = t.control;
-    let s = k.state;
+    let m = k.msr;
+    let s = m.state;
     match s {
-        State::N => takes(t, rt, index, mem),
+        State::N => loads(takes(t, rt, index, mem), index),
         State::T => ld_transactional(t, rt, index, mem),
-        State::S => takes(t, rt, index, mem),
+        State::S => loads(takes(t, rt, index, mem), index),
     }
 }
 
+// A store's effect: its line is touched.
+fn stores(d: Did, index: u32, write: Write) -> Effect
+    ensures { λ e. ⌜ e ≡ stores d index write ⌝ }
+{
+    power_common::doing(d, Touch::Store(index as usize / LINE), write)
+}
+
 // std in T: to the log, and no memory changes.
-fn std_transactional(t: Thread, value: u64, index: u32) -> Did
+fn std_transactional(t: Thread, value: u64, index: u32) -> Effect
     requires { ⌜ t .transaction .count ≤ most-places ⌝ }
     requires { ⌜ line index < lines ⌝ }
-    ensures { λ d. ⌜ d ≡ logs t value index ⌝ }
+    ensures { λ e. ⌜ e ≡ logs t value index ⌝ }
 {
     let x = t.transaction;
     if transaction::crowded(x, index as usize / LINE) {
-        return power_common::fails(t, thread::OVERFLOW);
+        return power_common::quiet(power_common::fails(t, Cause::Footprint));
     }
     let at = transaction::lookup(x, index);
     if transaction::full(x, at) {
-        return power_common::fails(t, thread::OVERFLOW);
+        return power_common::quiet(power_common::fails(t, Cause::Footprint));
     }
     let y = transaction::store_at(x, at, index, value);
     let mut u = t;
     u.transaction = y;
-    power_common::passes(u)
+    stores(power_common::passes(u), index, Write::Unwritten)
 }
 
 // The line is in one of the sets.
@@ -114,36 +134,37 @@ fn touches(x: Transaction, line: usize) -> bool
 }
 
 // std in S: a line of the thread's own sets fails its transaction.
-fn std_suspended(t: Thread, index: u32) -> Did
+fn meets_own(t: Thread, index: u32) -> Did
     requires { ⌜ line index < lines ⌝ }
     ensures { λ d. ⌜ d ≡ meets-own t index ⌝ }
 {
     let x = t.transaction;
     if touches(x, index as usize / LINE) {
-        return power_common::dooms(t, thread::SELF_CONFLICT);
+        return power_common::dooms(t, Cause::OwnStore);
     }
     power_common::passes(t)
 }
 
 // std (RA, index), with the value of RA
-pub fn std(t: Thread, value: u64, index: u32, mem: &mut [u64]) -> Did
+pub fn std(t: Thread, value: u64, index: u32) -> Effect
     requires { ⌜ t .transaction .count ≤ most-places ⌝ }
     requires { ⌜ line index < lines ⌝ }
-    requires { ⌜ index < length (now mem) ⌝ }
-    ensures { λ d. ⌜ d ≡ std (t .control .state) t value index (now (mem .entry)) .did ⌝ }
-    ensures { λ d. ⌜ now (mem .exit) ≡ std (t .control .state) t value index (now (mem .entry)) .memory ⌝ }
+    ensures { λ e. ⌜ e ≡ std (t .control .msr .state) t value index ⌝ }
 {
     let k = t.control;
-    let s = k.state;
+    let m = k.msr;
+    let s = m.state;
     match s {
-        State::N => {
-            mem[index as usize] = value;
-            power_common::passes(t)
-        }
+        State::N => stores(
+            power_common::passes(t),
+            index,
+            Write::Doubleword { index, value },
+        ),
         State::T => std_transactional(t, value, index),
-        State::S => {
-            mem[index as usize] = value;
-            std_suspended(t, index)
-        }
+        State::S => stores(
+            meets_own(t, index),
+            index,
+            Write::Doubleword { index, value },
+        ),
     }
 }

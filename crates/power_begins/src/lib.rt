@@ -1,36 +1,38 @@
 // tbegin., tend. and tsr.
 ghost use mathlib.Core.Path.{_≡_};
-ghost use Prim.Native.Nat.{_≤_};
-ghost use Rattle.base.specs.Limits.{most-places};
 ghost use Rattle.power_begins.specs.Begins.{begins, tbegin, commits, ended, tend, moves, tsuspend, tresume, tsr};
 use base::LEVELS;
 use power_common::Did;
 use thread::Control;
+use thread::Effect;
+use thread::Failure;
 use thread::State;
 use thread::Thread;
+use transaction::Cause;
+use transaction::Touch;
+use transaction::Write;
 
 // The control registers of a new transaction.
-fn begins(t: Thread, r: bool) -> Control
-    ensures { λ k. ⌜ k ≡ begins t r ⌝ }
+fn begins(k: Control, r: bool) -> Control
+    ensures { λ c. ⌜ c ≡ begins k r ⌝ }
 {
-    let k = t.control;
-    Control {
-        nia: k.nia,
-        pr: k.pr,
-        tm: k.tm,
-        state: State::T,
-        doomed: k.doomed,
+    let m = k.msr;
+    let f = k.failure;
+    let failure = Failure {
         tfhar: power_common::next(k.nia),
-        tfiar: k.tfiar,
+        tfiar: f.tfiar,
         texasr: base::bit(r) * 0x0200_0000 + 1,
-    }
+    };
+    let mut c = thread::in_state(k, State::T, m.doomed);
+    c.failure = failure;
+    c
 }
 
 // tbegin. where no transaction is open.
 fn outer(t: Thread, r: bool) -> Did
     ensures { λ d. ⌜ d ≡ tbegin State.N t r ⌝ }
 {
-    let k = begins(t, r);
+    let k = begins(t.control, r);
     let u = power_common::cr0_from_state(t);
     let mut v = thread::take_checkpoint(u);
     v.control = k;
@@ -39,17 +41,19 @@ fn outer(t: Thread, r: bool) -> Did
 
 // tbegin. (R)
 pub fn tbegin(t: Thread, r: bool) -> Did
-    ensures { λ d. ⌜ d ≡ tbegin (t .control .state) t r ⌝ }
+    ensures { λ d. ⌜ d ≡ tbegin (t .control .msr .state) t r ⌝ }
 {
     let k = t.control;
-    let s = k.state;
+    let m = k.msr;
+    let s = m.state;
     match s {
         State::N => outer(t, r),
         State::T => {
-            if LEVELS <= thread::tl(k.texasr) {
-                return power_common::fails(t, thread::NESTING);
+            let f = k.failure;
+            if LEVELS <= thread::tl(f.texasr) {
+                return power_common::fails(t, Cause::Nesting);
             }
-            power_common::leveled(t, k.texasr + 1)
+            power_common::leveled(t, f.texasr + 1)
         }
         State::S => power_common::cr0_only(t),
     }
@@ -63,7 +67,8 @@ fn commits(t: Thread, a: bool) -> bool
         return true;
     }
     let k = t.control;
-    thread::tl(k.texasr) <= 1
+    let f = k.failure;
+    thread::tl(f.texasr) <= 1
 }
 
 // The thread when its transaction is done.
@@ -71,9 +76,11 @@ fn ended(t: Thread) -> Did
     ensures { λ d. ⌜ d ≡ ended t ⌝ }
 {
     let k = t.control;
-    let x = k.texasr;
-    let mut c = thread::in_state(k, State::N, k.doomed);
-    c.texasr = x - thread::tl(x);
+    let m = k.msr;
+    let mut f = k.failure;
+    f.texasr = f.texasr - thread::tl(f.texasr);
+    let mut c = thread::in_state(k, State::N, m.doomed);
+    c.failure = f;
     let held = t.transaction;
     let none = transaction::discard(held);
     let mut u = t;
@@ -84,24 +91,22 @@ fn ended(t: Thread) -> Did
 }
 
 // tend. (A)
-pub fn tend(t: Thread, a: bool, mem: &mut [u64]) -> Did
-    requires { ⌜ t .transaction .count ≤ most-places ⌝ }
-    ensures { λ d. ⌜ d ≡ tend (t .control .state) t a (now (mem .entry)) .did ⌝ }
-    ensures { λ d. ⌜ now (mem .exit) ≡ tend (t .control .state) t a (now (mem .entry)) .memory ⌝ }
+pub fn tend(t: Thread, a: bool) -> Effect
+    ensures { λ e. ⌜ e ≡ tend (t .control .msr .state) t a ⌝ }
 {
     let k = t.control;
-    let s = k.state;
+    let m = k.msr;
+    let s = m.state;
     match s {
-        State::N => power_common::cr0_only(t),
+        State::N => power_common::quiet(power_common::cr0_only(t)),
         State::T => {
             if commits(t, a) {
-                let held = t.transaction;
-                transaction::commit(held, mem);
-                return ended(t);
+                return power_common::doing(ended(t), Touch::Untouched, Write::Log);
             }
-            power_common::leveled(t, k.texasr - 1)
+            let f = k.failure;
+            power_common::quiet(power_common::leveled(t, f.texasr - 1))
         }
-        State::S => power_common::cr0_only(t),
+        State::S => power_common::quiet(power_common::cr0_only(t)),
     }
 }
 
@@ -110,17 +115,19 @@ fn moves(t: Thread, s: State) -> Did
     ensures { λ d. ⌜ d ≡ moves t s ⌝ }
 {
     let k = t.control;
-    let c = thread::in_state(k, s, k.doomed);
+    let m = k.msr;
+    let c = thread::in_state(k, s, m.doomed);
     let mut u = power_common::cr0_from_state(t);
     u.control = c;
     power_common::passes(u)
 }
 
 fn tsuspend(t: Thread) -> Did
-    ensures { λ d. ⌜ d ≡ tsuspend (t .control .state) t ⌝ }
+    ensures { λ d. ⌜ d ≡ tsuspend (t .control .msr .state) t ⌝ }
 {
     let k = t.control;
-    let s = k.state;
+    let m = k.msr;
+    let s = m.state;
     match s {
         State::N => power_common::cr0_only(t),
         State::T => moves(t, State::S),
@@ -130,15 +137,16 @@ fn tsuspend(t: Thread) -> Did
 
 // A failure that was recorded in S is handled here.
 fn tresume(t: Thread) -> Did
-    ensures { λ d. ⌜ d ≡ tresume (t .control .state) t ⌝ }
+    ensures { λ d. ⌜ d ≡ tresume (t .control .msr .state) t ⌝ }
 {
     let k = t.control;
-    let s = k.state;
+    let m = k.msr;
+    let s = m.state;
     match s {
         State::N => power_common::cr0_only(t),
         State::T => power_common::cr0_only(t),
         State::S => {
-            if k.doomed {
+            if m.doomed {
                 let u = thread::handling(t);
                 return Did {
                     answer: 20,

@@ -1,26 +1,30 @@
 -- What the events on one thread share (document 01, "Events"): the next address, CR0 from state, the thread's own failure.
 use Prim.Native.Nat.{ℕ, _+_, _*_, _%_, _^_}
 use mathlib.Core.Bool.{true, cond}
-use mathlib.Core.List.{List}
 use lib.ListN.{getD, set}
 use lib.Dec.{eqb}
-use Rattle.thread.specs.Texasr.{cause-abort}
+use Rattle.transaction.specs.declared.Cause.{Cause}
+use Rattle.transaction.specs.declared.Cause.the-variants.{Abort}
+use Rattle.transaction.specs.declared.Touch.{Touch}
+use Rattle.transaction.specs.declared.Touch.the-variants.{Untouched}
+use Rattle.transaction.specs.declared.Write.{Write}
+use Rattle.transaction.specs.declared.Write.the-variants.{Unwritten}
 use Rattle.thread.specs.Thread.{with-live, with-cr0, with-control, with-nia, with-texasr, failed, recording, handling}
 use Rattle.thread.specs.declared.State.{State}
 use Rattle.thread.specs.declared.State.the-variants.{N, T, S}
 use Rattle.thread.specs.declared.Thread.{Thread}
+use Rattle.thread.specs.declared.Effect.{Effect}
 use Rattle.power_common.specs.declared.Did.{Did}
-
--- what an event leaves: its answer with the thread, and memory
-pub record Ran : Type 0 where
-  pub did : Did
-  pub memory : List ℕ
 
 abbrev pub did : ℕ → Thread → Did
 did n t = record { answer = n; thread = t }
 
-abbrev pub ran : Did → List ℕ → Ran
-ran d mem = record { did = d; memory = mem }
+-- the effect of an event that touches or writes, and of one that does neither
+abbrev pub doing : Did → Touch → Write → Effect
+doing d touch write = record { answer = d .answer; thread = d .thread; touch = touch; write = write }
+
+abbrev pub quiet : Did → Effect
+quiet d = doing d Untouched Unwritten
 
 -- the address after
 abbrev pub next : ℕ → ℕ
@@ -45,7 +49,7 @@ abbrev pub ts-field : State → ℕ
 ts-field s = 2 * ts s
 
 abbrev pub cr0-from-state : Thread → Thread
-cr0-from-state t = with-cr0 t (ts-field (t .control .state))
+cr0-from-state t = with-cr0 t (ts-field (t .control .msr .state))
 
 -- CR0 from state, and on to the next instruction
 abbrev pub cr0-only : Thread → Did
@@ -67,17 +71,17 @@ abbrev pub gpr-or-0 : Thread → ℕ → ℕ
 gpr-or-0 t ra = cond (eqb ra 0) 0 (gpr t ra)
 
 -- the cause of an abort or reclaim: its code is the low byte of RA
-abbrev pub abort-cause : Thread → ℕ → ℕ
-abort-cause t ra = cause-abort (gpr-or-0 t ra % 2 ^ 8)
+abbrev pub abort-cause : Thread → ℕ → Cause
+abort-cause t ra = Abort (gpr-or-0 t ra % 2 ^ 8)
 
 -- a cause recorded for the thread's own instruction
-abbrev pub own-recording : Thread → ℕ → Thread
+abbrev pub own-recording : Thread → Cause → Thread
 own-recording t cause = recording t cause true (t .control .nia)
 
 -- the thread's own failure in T: recorded, and handled in the same event
-unfoldable pub fails : Thread → ℕ → Did
+unfoldable pub fails : Thread → Cause → Did
 fails t cause = did 20 (handling (own-recording t cause))
 
 -- the thread's own failure in S: recorded, and handled at tresume; 21 only if this event recorded it
-unfoldable pub dooms : Thread → ℕ → Did
+unfoldable pub dooms : Thread → Cause → Did
 dooms t cause = did (cond (failed (t .control)) 0 21) (advance (own-recording t cause))

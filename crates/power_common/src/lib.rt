@@ -1,14 +1,38 @@
 // What the events share: the next address, CR0 from state, registers, the thread's own failure.
 ghost use mathlib.Core.Path.{_≡_};
-ghost use Prim.Native.Nat.{_<_, _^_};
-ghost use Rattle.power_common.specs.Common.{next, advance, passes, ts-field, cr0-from-state, gpr, gpr-or-0, put-gpr, abort-cause, own-recording, fails, dooms, cr0-only, leveled};
+ghost use Prim.Native.Nat.{_<_};
+ghost use Rattle.power_common.specs.Common.{doing, quiet, next, advance, passes, ts-field, cr0-from-state, gpr, gpr-or-0, put-gpr, abort-cause, own-recording, fails, dooms, cr0-only, leveled};
+use thread::Effect;
 use thread::State;
 use thread::Thread;
+use transaction::Cause;
+use transaction::Touch;
+use transaction::Write;
 
 // The answer, 0, 20 or 21, and the thread afterwards.
 pub struct Did {
     pub answer: u8,
     pub thread: Thread,
+}
+
+// The effect of an event that touches or writes.
+pub fn doing(d: Did, touch: Touch, write: Write) -> Effect
+    ensures { λ r. ⌜ r ≡ doing d touch write ⌝ }
+{
+    let thread = d.thread;
+    Effect {
+        answer: d.answer,
+        thread,
+        touch,
+        write,
+    }
+}
+
+// The effect of an event that does neither.
+pub fn quiet(d: Did) -> Effect
+    ensures { λ r. ⌜ r ≡ quiet d ⌝ }
+{
+    doing(d, Touch::Untouched, Write::Unwritten)
 }
 
 // The address after.
@@ -56,7 +80,8 @@ pub fn cr0_from_state(t: Thread) -> Thread
     ensures { λ r. ⌜ r ≡ cr0-from-state t ⌝ }
 {
     let k = t.control;
-    let s = k.state;
+    let m = k.msr;
+    let s = m.state;
     let mut u = t;
     u.cr0 = ts_field(s);
     u
@@ -75,7 +100,9 @@ pub fn leveled(t: Thread, x: u64) -> Did
     ensures { λ r. ⌜ r ≡ leveled t x ⌝ }
 {
     let mut k = t.control;
-    k.texasr = x;
+    let mut f = k.failure;
+    f.texasr = x;
+    k.failure = f;
     let mut u = t;
     u.control = k;
     cr0_only(u)
@@ -112,18 +139,16 @@ pub fn put_gpr(t: Thread, r: u8, v: u64) -> Thread
     u
 }
 
-// The cause by RA: the low byte of the register as code, and bit 31.
-pub fn abort_cause(t: Thread, ra: u8) -> u64
+// The cause by RA: the low byte of the register as code.
+pub fn abort_cause(t: Thread, ra: u8) -> Cause
     requires { ⌜ ra < 32 ⌝ }
     ensures { λ r. ⌜ r ≡ abort-cause t ra ⌝ }
-    ensures { λ r. ⌜ r < 2 ^ 32 ⌝ }
 {
-    gpr_or_0(t, ra) % 256 * 0x100_0000 + 1
+    Cause::Abort((gpr_or_0(t, ra) % 256) as u8)
 }
 
 // A cause recorded for the thread's own instruction.
-pub fn own_recording(t: Thread, cause: u64) -> Thread
-    requires { ⌜ cause < 2 ^ 32 ⌝ }
+pub fn own_recording(t: Thread, cause: Cause) -> Thread
     ensures { λ r. ⌜ r ≡ own-recording t cause ⌝ }
 {
     let k = t.control;
@@ -131,8 +156,7 @@ pub fn own_recording(t: Thread, cause: u64) -> Thread
 }
 
 // The thread's own failure in T: recorded, and handled in the same event.
-pub fn fails(t: Thread, cause: u64) -> Did
-    requires { ⌜ cause < 2 ^ 32 ⌝ }
+pub fn fails(t: Thread, cause: Cause) -> Did
     ensures { λ r. ⌜ r ≡ fails t cause ⌝ }
 {
     let u = own_recording(t, cause);
@@ -144,8 +168,7 @@ pub fn fails(t: Thread, cause: u64) -> Did
 }
 
 // The thread's own failure in S: recorded, and handled only at tresume; 21 only if this event recorded it.
-pub fn dooms(t: Thread, cause: u64) -> Did
-    requires { ⌜ cause < 2 ^ 32 ⌝ }
+pub fn dooms(t: Thread, cause: Cause) -> Did
     ensures { λ r. ⌜ r ≡ dooms t cause ⌝ }
 {
     let k = t.control;

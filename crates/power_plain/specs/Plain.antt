@@ -2,11 +2,11 @@
 use Prim.Native.Nat.{ℕ, _+_, _-_, _%_, _^_}
 use mathlib.Core.Bool.{Bool, false, cond}
 use lib.Dec.{ltb}
-use Rattle.thread.specs.Texasr.{cause-disallowed}
-use Rattle.thread.specs.Thread.{with-control}
+use Rattle.transaction.specs.declared.Cause.the-variants.{Disallowed}
+use Rattle.thread.specs.Thread.{with-control, with-msr}
 use Rattle.thread.specs.declared.State.{State}
 use Rattle.thread.specs.declared.State.the-variants.{N, T, S}
-use Rattle.thread.specs.declared.Control.{Control}
+use Rattle.thread.specs.declared.Msr.{Msr}
 use Rattle.thread.specs.declared.Thread.{Thread}
 use Rattle.power_common.specs.Common.{did, passes, put-gpr, gpr-or-0, fails}
 use Rattle.power_common.specs.declared.Did.{Did}
@@ -21,12 +21,12 @@ addi t rt ra si = passes (put-gpr t rt ((gpr-or-0 t ra + extended si) % 2 ^ 64))
 -- 15. a disallowed instruction
 unfoldable pub disallowed : State → Thread → Did
 disallowed N t = passes t
-disallowed T t = fails t cause-disallowed
+disallowed T t = fails t Disallowed
 disallowed S t = passes t
 
 -- 16. an interrupt suspends and enters privileged state with the facility off. 17. the host's own setting. Neither moves NIA
-abbrev pub with-msr : Control → State → Bool → Bool → Control
-with-msr k s pr tm = record { nia = k .nia; pr = pr; tm = tm; state = s; doomed = k .doomed; tfhar = k .tfhar; tfiar = k .tfiar; texasr = k .texasr }
+abbrev pub asked : Msr → State → Bool → Bool → Msr
+asked m s pr tm = record { pr = pr; tm = tm; state = s; doomed = m .doomed }
 
 abbrev pub interrupted : State → State
 interrupted N = N
@@ -34,7 +34,7 @@ interrupted T = S
 interrupted S = S
 
 unfoldable pub interrupt : Thread → Did
-interrupt t = did 0 (with-control t (with-msr (t .control) (interrupted (t .control .state)) false false))
+interrupt t = did 0 (with-control t (with-msr (t .control) (asked (t .control .msr) (interrupted (t .control .msr .state)) false false)))
 
 unfoldable pub host : Thread → Bool → Bool → Did
-host t pr tm = did 0 (with-control t (with-msr (t .control) (t .control .state) pr tm))
+host t pr tm = did 0 (with-control t (with-msr (t .control) (asked (t .control .msr) (t .control .msr .state) pr tm)))

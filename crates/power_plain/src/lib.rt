@@ -1,11 +1,12 @@
 // addi, the disallowed instruction, the interrupt, and the host's setting of PR and TM.
 ghost use mathlib.Core.Path.{_≡_};
 ghost use Prim.Native.Nat.{_<_};
-ghost use Rattle.power_plain.specs.Plain.{extended, addi, disallowed, with-msr, interrupted, interrupt, host};
+ghost use Rattle.power_plain.specs.Plain.{extended, addi, disallowed, asked, interrupted, interrupt, host};
 use power_common::Did;
-use thread::Control;
+use thread::Msr;
 use thread::State;
 use thread::Thread;
+use transaction::Cause;
 
 // SI sign-extended from 16 bits.
 fn extended(si: u16) -> u64
@@ -31,29 +32,26 @@ pub fn addi(t: Thread, rt: u8, ra: u8, si: u16) -> Did
 
 // A disallowed instruction
 pub fn disallowed(t: Thread) -> Did
-    ensures { λ d. ⌜ d ≡ disallowed (t .control .state) t ⌝ }
+    ensures { λ d. ⌜ d ≡ disallowed (t .control .msr .state) t ⌝ }
 {
     let k = t.control;
-    let s = k.state;
+    let m = k.msr;
+    let s = m.state;
     match s {
         State::N => power_common::passes(t),
-        State::T => power_common::fails(t, thread::DISALLOWED),
+        State::T => power_common::fails(t, Cause::Disallowed),
         State::S => power_common::passes(t),
     }
 }
 
-fn with_msr(k: Control, s: State, pr: bool, tm: bool) -> Control
-    ensures { λ r. ⌜ r ≡ with-msr k s pr tm ⌝ }
+fn asked(m: Msr, s: State, pr: bool, tm: bool) -> Msr
+    ensures { λ r. ⌜ r ≡ asked m s pr tm ⌝ }
 {
-    Control {
-        nia: k.nia,
+    Msr {
         pr,
         tm,
         state: s,
-        doomed: k.doomed,
-        tfhar: k.tfhar,
-        tfiar: k.tfiar,
-        texasr: k.texasr,
+        doomed: m.doomed,
     }
 }
 
@@ -71,11 +69,13 @@ fn interrupted(s: State) -> State
 pub fn interrupt(t: Thread) -> Did
     ensures { λ d. ⌜ d ≡ interrupt t ⌝ }
 {
-    let k = t.control;
-    let s = k.state;
-    let c = with_msr(k, interrupted(s), false, false);
+    let mut k = t.control;
+    let m = k.msr;
+    let s = m.state;
+    let n = asked(m, interrupted(s), false, false);
+    k.msr = n;
     let mut u = t;
-    u.control = c;
+    u.control = k;
     Did {
         answer: 0,
         thread: u,
@@ -86,11 +86,13 @@ pub fn interrupt(t: Thread) -> Did
 pub fn host(t: Thread, pr: bool, tm: bool) -> Did
     ensures { λ d. ⌜ d ≡ host t pr tm ⌝ }
 {
-    let k = t.control;
-    let s = k.state;
-    let c = with_msr(k, s, pr, tm);
+    let mut k = t.control;
+    let m = k.msr;
+    let s = m.state;
+    let n = asked(m, s, pr, tm);
+    k.msr = n;
     let mut u = t;
-    u.control = c;
+    u.control = k;
     Did {
         answer: 0,
         thread: u,

@@ -17,7 +17,7 @@ abbrev pub put-cr : Thread → ℕ → ℕ → Thread
 put-cr t bf f = cond (eqb bf 0) (with-cr0 t f) (with-live t (record { gpr = t .live .gpr; cr = set (t .live .cr) (bf - 1) f }))
 
 abbrev pub check-field : Control → ℕ
-check-field k = bit (k .doomed) * 8 + ts-field (k .state)
+check-field k = bit (k .msr .doomed) * 8 + ts-field (k .msr .state)
 
 unfoldable pub tcheck : Thread → ℕ → Did
 tcheck t bf = passes (put-cr t bf (check-field (t .control)))
@@ -27,7 +27,7 @@ abbrev pub reclaims : Thread → Thread
 reclaims t = with-transaction (with-control (restore t) (in-state (t .control) N false)) (transaction.discard (t .transaction))
 
 unfoldable pub treclaim : Thread → ℕ → Did
-treclaim t ra = passes (with-cr0 (reclaims (own-recording t (abort-cause t ra))) (ts-field (t .control .state)))
+treclaim t ra = passes (with-cr0 (reclaims (own-recording t (abort-cause t ra))) (ts-field (t .control .msr .state)))
 
 -- 9. trechkpt.: the live registers become the checkpoint of a suspended transaction that is doomed
 unfoldable pub trechkpt : Thread → Did

@@ -11,8 +11,9 @@ use thread::Thread;
 fn check_field(k: Control) -> u8
     ensures { λ r. ⌜ r ≡ check-field k ⌝ }
 {
-    let s = k.state;
-    if k.doomed {
+    let m = k.msr;
+    let s = m.state;
+    if m.doomed {
         return 8 + power_common::ts_field(s);
     }
     power_common::ts_field(s)
@@ -64,7 +65,8 @@ pub fn treclaim(t: Thread, ra: u8) -> Did
     ensures { λ d. ⌜ d ≡ treclaim t ra ⌝ }
 {
     let k = t.control;
-    let s = k.state;
+    let m = k.msr;
+    let s = m.state;
     let u = power_common::own_recording(t, power_common::abort_cause(t, ra));
     let mut v = reclaims(u);
     v.cr0 = power_common::ts_field(s);

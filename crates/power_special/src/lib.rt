@@ -4,12 +4,13 @@ ghost use Prim.Native.Nat.{_<_};
 ghost use Rattle.power_special.specs.Special.{put-spr, mtspr, get-tfiar, get-spr, mfspr};
 use power_common::Did;
 use thread::Control;
+use thread::Failure;
 use thread::Thread;
 
-fn put_spr(k: Control, spr: u8, v: u64) -> Control
-    ensures { λ r. ⌜ r ≡ put-spr k spr v ⌝ }
+fn put_spr(f: Failure, spr: u8, v: u64) -> Failure
+    ensures { λ r. ⌜ r ≡ put-spr f spr v ⌝ }
 {
-    let mut c = k;
+    let mut c = f;
     if spr == 128 {
         c.tfhar = v - v % 4;
         return c;
@@ -22,7 +23,7 @@ fn put_spr(k: Control, spr: u8, v: u64) -> Control
         c.texasr = v;
         return c;
     }
-    c.texasr = v % 0x1_0000_0000 * 0x1_0000_0000 + k.texasr % 0x1_0000_0000;
+    c.texasr = v % 0x1_0000_0000 * 0x1_0000_0000 + f.texasr % 0x1_0000_0000;
     c
 }
 
@@ -31,10 +32,11 @@ pub fn mtspr(t: Thread, spr: u8, ra: u8) -> Did
     requires { ⌜ ra < 32 ⌝ }
     ensures { λ d. ⌜ d ≡ mtspr t spr ra ⌝ }
 {
-    let k = t.control;
-    let c = put_spr(k, spr, power_common::gpr(t, ra));
+    let mut k = t.control;
+    let f = put_spr(k.failure, spr, power_common::gpr(t, ra));
+    k.failure = f;
     let mut u = t;
-    u.control = c;
+    u.control = k;
     power_common::passes(u)
 }
 
@@ -42,27 +44,30 @@ pub fn mtspr(t: Thread, spr: u8, ra: u8) -> Did
 fn get_tfiar(k: Control) -> u64
     ensures { λ r. ⌜ r ≡ get-tfiar k ⌝ }
 {
-    if k.pr {
-        if k.tfiar % 2 == 0 {
+    let m = k.msr;
+    let f = k.failure;
+    if m.pr {
+        if f.tfiar % 2 == 0 {
             return 0;
         }
     }
-    k.tfiar
+    f.tfiar
 }
 
 fn get_spr(k: Control, spr: u8) -> u64
     ensures { λ r. ⌜ r ≡ get-spr k spr ⌝ }
 {
+    let f = k.failure;
     if spr == 128 {
-        return k.tfhar;
+        return f.tfhar;
     }
     if spr == 129 {
         return get_tfiar(k);
     }
     if spr == 130 {
-        return k.texasr;
+        return f.texasr;
     }
-    k.texasr / 0x1_0000_0000
+    f.texasr / 0x1_0000_0000
 }
 
 // mfspr (RT, SPR)

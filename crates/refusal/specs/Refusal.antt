@@ -23,10 +23,10 @@ host-in-t s n = eqb n 17 && in-t s
 
 -- number 11: TM = 0 and a TM instruction, kinds 1 to 11. Number 12: PR = 1 and a privileged one, treclaim. or trechkpt.
 abbrev pub off : Control → ℕ → Bool
-off k n = not (k .tm) && leb n 11
+off k n = not (k .msr .tm) && leb n 11
 
 abbrev pub forbidden : Control → ℕ → Bool
-forbidden k n = k .pr && (eqb n 8 || eqb n 9)
+forbidden k n = k .msr .pr && (eqb n 8 || eqb n 9)
 
 -- number 13, Bad Thing: tend. in S; treclaim. in N; trechkpt. unless N and FS = 1; mtspr in T and S
 unfoldable pub bad-thing : State → Control → ℕ → Bool
@@ -37,10 +37,10 @@ bad-thing S k n = eqb n 2 || (eqb n 9 || eqb n 10)
 -- the tests on the event's own thread, of an event of kind n: 5, 11, 12, 13
 unfoldable pub refused-there : Control → ℕ → ℕ
 refused-there k n =
-    cond (host-in-t (k .state) n) 5
+    cond (host-in-t (k .msr .state) n) 5
     (cond (off k n) 11
     (cond (forbidden k n) 12
-    (cond (bad-thing (k .state) k n) 13
+    (cond (bad-thing (k .msr .state) k n) 13
     0)))
 
 -- the tests that a valid machine leaves: 3, 4, 5, 11, 12, 13

@@ -61,9 +61,10 @@ fn bad_in_s(k: Control, n: u8) -> bool
 
 // Number 13: Bad Thing.
 fn bad_thing(k: Control, n: u8) -> bool
-    ensures { λ r. ⌜ r ≡ bad-thing (k .state) k n ⌝ }
+    ensures { λ r. ⌜ r ≡ bad-thing (k .msr .state) k n ⌝ }
 {
-    let s = k.state;
+    let m = k.msr;
+    let s = m.state;
     match s {
         State::N => bad_in_n(k, n),
         State::T => bad_in_t(k, n),
@@ -75,7 +76,8 @@ fn bad_thing(k: Control, n: u8) -> bool
 fn off(k: Control, n: u8) -> bool
     ensures { λ r. ⌜ r ≡ off k n ⌝ }
 {
-    if k.tm {
+    let m = k.msr;
+    if m.tm {
         return false;
     }
     n <= 11
@@ -85,7 +87,8 @@ fn off(k: Control, n: u8) -> bool
 fn forbidden(k: Control, n: u8) -> bool
     ensures { λ r. ⌜ r ≡ forbidden k n ⌝ }
 {
-    if k.pr {
+    let m = k.msr;
+    if m.pr {
         if n == 8 {
             return true;
         }
@@ -98,7 +101,8 @@ fn forbidden(k: Control, n: u8) -> bool
 fn refused_there(k: Control, n: u8) -> u8
     ensures { λ r. ⌜ r ≡ refused-there k n ⌝ }
 {
-    let s = k.state;
+    let m = k.msr;
+    let s = m.state;
     if host_in_t(s, n) {
         return 5;
     }

@@ -22,12 +22,12 @@ use Rattle.tape.specs.declared.Read.the-variants.{Record, Refused}
 use Rattle.run.specs.Run.{Result, result, goes-on, record-at, counted, one, run-from, run}
 use Rattle.run.specs.Steps.{fed, events, all-go, RunIsSteps, StopChangesNothing, CountedWent}
 use Rattle.run.proofs.Laws.{is-counted, not-counted, run-stops, run-goes}
-use Rattle.run.proofs.Answers.{own-done}
+use Rattle.run.proofs.Answers.{effect-done}
 
 -- an event that is not refused goes on
 passed-goes : (m : Machine) (mem : List ℕ) (w : ℕ) (e : Event) → goes-on (perform m mem w e .done .answer) ≡ true
 unfolding perform
-passed-goes m mem w e = own-done e (thread (m .threads) w) mem
+passed-goes m mem w e = effect-done e (thread (m .threads) w) mem
 
 pub stop-changes-nothing : StopChangesNothing
 stop-changes-nothing m mem w e p = go (ℕ-discrete (refusal m (length mem) w e) 0)

@@ -4,10 +4,10 @@ use mathlib.Core.Bool.{cond}
 use mathlib.Core.List.{List, [], _∷_}
 use lib.Dec.{eqb}
 use lib.ListN.{set, length}
-use Rattle.thread.specs.declared.Thread.{Thread}
+use Rattle.transaction.specs.Transaction.{written}
+use Rattle.thread.specs.declared.Effect.{Effect}
 use Rattle.event.specs.declared.Event.{Event}
-use Rattle.power_common.specs.Common.{Ran}
-use Rattle.power_effect.specs.Events.{overflows, own}
+use Rattle.power_effect.specs.Effects.{effect}
 use Rattle.machine.specs.Machine.{thread, with-threads}
 use Rattle.refusal.specs.Refusal.{refusal}
 use Rattle.conflict.specs.Conflict.{others}
@@ -22,14 +22,15 @@ pub record Outcome : Type 0 where
 abbrev pub outcome : ℕ → Machine → List ℕ → Outcome
 outcome n m mem = record { done = record { answer = n; machine = m }; memory = mem }
 
--- the event's own thread put beside the others
-abbrev pub joined : Machine → List Thread → ℕ → Ran → Outcome
-joined m ts w r = outcome (r .did .answer) (with-threads m (set ts w (r .did .thread))) (r .memory)
+-- an effect of thread w applied: the others after what it touches, its own thread, and memory after what it writes
+abbrev pub applied : Machine → List ℕ → ℕ → Effect → Outcome
+applied m mem w f =
+    outcome (f .answer) (with-threads m (set (others (f .touch) (m .threads) w) w (f .thread)))
+    (written (f .write) (thread (m .threads) w .transaction) mem)
 
--- an event that is not refused; where its access overflows no other thread is touched
+-- an event that is not refused: what it does is decided, then applied
 unfoldable pub perform : Machine → List ℕ → ℕ → Event → Outcome
-perform m mem w e =
-    joined m (cond (overflows e (thread (m .threads) w)) (m .threads) (others e (m .threads) w)) w (own e (thread (m .threads) w) mem)
+perform m mem w e = applied m mem w (effect e (thread (m .threads) w) mem)
 
 unfoldable pub step : Machine → List ℕ → ℕ → Event → Outcome
 step m mem w e =

@@ -1,14 +1,10 @@
 // One event: refused by a number with nothing changed, or done on its own thread, on the others and on memory.
 ghost use mathlib.Core.Path.{_≡_};
-ghost use mathlib.Core.Bool.{true, cond};
-ghost use Prim.Native.Nat.{_<_, _≤_, _*_};
-ghost use lib.Dec.{eqb};
+ghost use mathlib.Core.Bool.{true};
+ghost use Prim.Native.Nat.{_<_};
 ghost use lib.ListN.{length};
-ghost use Rattle.base.specs.Limits.{line-size, lines, most-threads};
 ghost use Rattle.event.specs.Event.{operands-right};
-ghost use Rattle.machine.specs.Machine.{with-threads};
 ghost use Rattle.machine.specs.Valid.{valid};
-ghost use Rattle.conflict.specs.Conflict.{others};
 ghost use Rattle.step.specs.Step.{perform, step};
 use event::Event;
 use machine::Machine;
@@ -19,20 +15,7 @@ pub struct Done {
     pub machine: Machine,
 }
 
-// The other threads after the event. An access answers 20 exactly where it overflowed, and then touches none.
-fn reached(e: Event, m: Machine, w: usize, len: usize, answer: u8) -> Machine
-    requires { ⌜ w < most-threads ⌝ }
-    requires { ⌜ operands-right e len ≡ true ⌝ }
-    requires { ⌜ len ≤ line-size * lines ⌝ }
-    ensures { λ r. ⌜ r ≡ with-threads m (cond (eqb answer 20) (m .threads) (others e (m .threads) w)) ⌝ }
-{
-    if answer == 20 {
-        return m;
-    }
-    conflict::others(e, m, w, len)
-}
-
-// An event that is not refused.
+// An event that is not refused: what it does is decided, then applied.
 fn perform(m: Machine, mem: &mut [u64], w: usize, e: Event) -> Done
     requires { ⌜ valid m (length (now mem)) ≡ true ⌝ }
     requires { ⌜ w < m .count ⌝ }
@@ -40,14 +23,17 @@ fn perform(m: Machine, mem: &mut [u64], w: usize, e: Event) -> Done
     ensures { λ r. ⌜ r ≡ perform m (now (mem .entry)) w e .done ⌝ }
     ensures { λ r. ⌜ now (mem .exit) ≡ perform m (now (mem .entry)) w e .memory ⌝ }
 {
-    let len = mem.len();
     let t = m.threads[w];
-    let did = power_effect::own(e, t, mem);
-    let mut n = reached(e, m, w, len, did.answer);
-    let u = did.thread;
+    let f = power_effect::effect(e, t, &mem[..]);
+    let touch = f.touch;
+    let mut n = conflict::others(touch, m, w);
+    let u = f.thread;
     n.threads[w] = u;
+    let x = t.transaction;
+    let write = f.write;
+    transaction::written(write, x, mem);
     Done {
-        answer: did.answer,
+        answer: f.answer,
         machine: n,
     }
 }

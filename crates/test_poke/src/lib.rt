@@ -15,6 +15,8 @@ pub mod text;
 use lines::LineSet;
 use machine::Machine;
 use thread::Control;
+use thread::Failure;
+use thread::Msr;
 use thread::Registers;
 use thread::State;
 use thread::Thread;
@@ -74,41 +76,49 @@ fn live_cr(t: Thread, field: usize, v: u64) -> Thread {
     u
 }
 
-fn addresses(k: Control, field: u8, v: u64) -> Control {
-    let mut c = k;
-    if field == 7 {
-        c.nia = v;
-    }
+fn failure(f: Failure, field: u8, v: u64) -> Failure {
+    let mut g = f;
     if field == 12 {
-        c.tfhar = v;
+        g.tfhar = v;
     }
     if field == 13 {
-        c.tfiar = v;
+        g.tfiar = v;
     }
     if field == 14 {
-        c.texasr = v;
+        g.texasr = v;
     }
-    c
+    g
+}
+
+fn msr(m: Msr, field: u8, v: u64) -> Msr {
+    let mut n = m;
+    if field == 8 {
+        n.pr = v == 1;
+    }
+    if field == 9 {
+        n.tm = v == 1;
+    }
+    if field == 11 {
+        n.doomed = v == 1;
+    }
+    n
 }
 
 fn control(k: Control, field: u8, v: u64) -> Control {
     let mut c = k;
-    if field == 8 {
-        c.pr = v == 1;
-        return c;
-    }
-    if field == 9 {
-        c.tm = v == 1;
+    let m = k.msr;
+    if field == 7 {
+        c.nia = v;
         return c;
     }
     if field == 10 {
-        return thread::in_state(k, state(v), k.doomed);
+        return thread::in_state(k, state(v), m.doomed);
     }
-    if field == 11 {
-        c.doomed = v == 1;
-        return c;
-    }
-    addresses(k, field, v)
+    let n = msr(m, field, v);
+    let f = failure(k.failure, field, v);
+    c.msr = n;
+    c.failure = f;
+    c
 }
 
 fn word(s: LineSet, i: usize, v: u64) -> LineSet {

@@ -72,15 +72,17 @@ fn state(s: State) -> u64 {
 }
 
 fn control(w: usize, k: Control) {
-    let s = k.state;
+    let m = k.msr;
+    let f = k.failure;
+    let s = m.state;
     field(w, b"nia", k.nia, 0);
-    field(w, b"pr", bit(k.pr), 1);
-    field(w, b"tm", bit(k.tm), 1);
+    field(w, b"pr", bit(m.pr), 1);
+    field(w, b"tm", bit(m.tm), 1);
     field(w, b"state", state(s), 0);
-    field(w, b"doomed", bit(k.doomed), 0);
-    field(w, b"tfhar", k.tfhar, 0);
-    field(w, b"tfiar", k.tfiar, 0);
-    field(w, b"texasr", k.texasr, 0);
+    field(w, b"doomed", bit(m.doomed), 0);
+    field(w, b"tfhar", f.tfhar, 0);
+    field(w, b"tfiar", f.tfiar, 0);
+    field(w, b"texasr", f.texasr, 0);
 }
 
 fn words(w: usize, name: &[u8], s: LineSet) {

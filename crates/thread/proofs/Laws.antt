@@ -6,7 +6,9 @@ use native.Mathlib.Omega.{arith}
 use borrow.Author.Tests.{eq-eqb}
 use Rattle.base.specs.Below.{bit}
 use Rattle.base.proofs.Below.{bit-lt}
-use Rattle.thread.specs.Texasr.{fs, rot, tl, upper, packed, begun}
+use lib.Dec.{eqb}
+use Rattle.transaction.specs.declared.Cause.{Cause}
+use Rattle.thread.specs.Texasr.{fs, rot, tl, upper, packed, begun, cause-bits}
 use Rattle.thread.specs.Thread.{failed, suspended, noted, recording}
 use Rattle.thread.specs.declared.State.{State}
 use Rattle.thread.specs.declared.State.the-variants.{N, T, S}
@@ -46,25 +48,25 @@ begun-rot true = refl
 begun-rot false = refl
 
 -- a noted failure has FS = 1, and keeps ROT and TL
-module _ (k : Control) (cause : ℕ) (exact : Bool) (at : ℕ) where
-  pub noted-failed : failed (noted k cause exact at) ≡ true
+module _ (k : Control) (cause : Cause) (exact : Bool) (at : ℕ) where
+  pub noted-failed : eqb (fs (noted k cause exact at .texasr)) 1 ≡ true
   noted-failed =
       eq-eqb _ 1
-      (packed-fs cause (suspended (k .state)) (bit (k .pr)) (bit exact) (rot (k .texasr)) (tl (k .texasr)) (suspended-lt (k .state)) (bit-lt (k .pr)) (bit-lt exact)
+      (packed-fs (cause-bits cause) (suspended (k .msr .state)) (bit (k .msr .pr)) (bit exact) (rot (k .failure .texasr)) (tl (k .failure .texasr)) (suspended-lt (k .msr .state)) (bit-lt (k .msr .pr)) (bit-lt exact)
       (omega arith) (omega arith))
 
-  pub noted-tl : tl (noted k cause exact at .texasr) ≡ tl (k .texasr)
+  pub noted-tl : tl (noted k cause exact at .texasr) ≡ tl (k .failure .texasr)
   noted-tl =
-      packed-tl cause (suspended (k .state)) (bit (k .pr)) (bit exact) (rot (k .texasr)) (tl (k .texasr)) (suspended-lt (k .state)) (bit-lt (k .pr)) (bit-lt exact)
+      packed-tl (cause-bits cause) (suspended (k .msr .state)) (bit (k .msr .pr)) (bit exact) (rot (k .failure .texasr)) (tl (k .failure .texasr)) (suspended-lt (k .msr .state)) (bit-lt (k .msr .pr)) (bit-lt exact)
       (omega arith) (omega arith)
 
 -- a second failure leaves the first; the first is recorded
-pub recording-again : (t : Thread) (cause : ℕ) (exact : Bool) (at : ℕ) → failed (t .control) ≡ true → recording t cause exact at ≡ t
+pub recording-again : (t : Thread) (cause : Cause) (exact : Bool) (at : ℕ) → failed (t .control) ≡ true → recording t cause exact at ≡ t
 unfolding recording
 recording-again t cause exact at p = simp p
 
 -- after recording FS = 1, whatever it was
-pub recording-failed : (t : Thread) (cause : ℕ) (exact : Bool) (at : ℕ) → failed (recording t cause exact at .control) ≡ true
+pub recording-failed : (t : Thread) (cause : Cause) (exact : Bool) (at : ℕ) → failed (recording t cause exact at .control) ≡ true
 unfolding recording
 recording-failed t cause exact at = go (failed (t .control)) refl
   where

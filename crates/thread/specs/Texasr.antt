@@ -1,5 +1,7 @@
 -- TEXASR's fields, with bit 0 the highest of 64 (document 01, "TEXASR").
 use Prim.Native.Nat.{ℕ, _+_, _-_, _*_, _/_, _%_, _^_}
+use Rattle.transaction.specs.declared.Cause.{Cause}
+use Rattle.transaction.specs.declared.Cause.the-variants.{Disallowed, Nesting, Footprint, OwnStore, PlainConflict, Conflict, Abort}
 
 -- the weight of bit b
 abbrev pub weight : ℕ → ℕ
@@ -31,25 +33,12 @@ abbrev pub packed : (cause suspended pr exact r level : ℕ) → ℕ
 packed cause suspended pr exact r level =
     cause * 2 ^ 32 + suspended * weight 32 + pr * weight 35 + weight 36 + exact * weight 37 + r * weight 38 + level
 
--- the causes of document 01, each a 32-bit number for the upper half
-abbrev pub cause-disallowed : ℕ
-cause-disallowed = 0x00800000
-
-abbrev pub cause-nesting : ℕ
-cause-nesting = 0x00400000
-
-abbrev pub cause-footprint : ℕ
-cause-footprint = 0x00200000
-
-abbrev pub cause-self : ℕ
-cause-self = 0x00100000
-
-abbrev pub cause-plain-conflict : ℕ
-cause-plain-conflict = 0x00080000
-
-abbrev pub cause-conflict : ℕ
-cause-conflict = 0x00040000
-
--- an abort with a failure code: the code in bits 0:7, and bit 31
-abbrev pub cause-abort : ℕ → ℕ
-cause-abort code = code * 2 ^ 24 + 1
+-- a cause's 32 bits, for the upper half; an abort has its code in bits 0:7, and bit 31
+abbrev pub cause-bits : Cause → ℕ
+cause-bits Disallowed = 0x00800000
+cause-bits Nesting = 0x00400000
+cause-bits Footprint = 0x00200000
+cause-bits OwnStore = 0x00100000
+cause-bits PlainConflict = 0x00080000
+cause-bits Conflict = 0x00040000
+cause-bits (Abort code) = code * 2 ^ 24 + 1

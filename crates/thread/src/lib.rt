@@ -1,9 +1,12 @@
 // One thread: live registers and checkpoint, control registers, transaction; recording and handling of a failure (document 01, "The machine", "TEXASR").
 ghost use mathlib.Core.Path.{_≡_};
 ghost use Prim.Native.Nat.{_<_, _^_};
-ghost use Rattle.thread.specs.Texasr.{rot, tl, packed};
-ghost use Rattle.thread.specs.Thread.{in-state, take-checkpoint, restore, failed, suspended, noted, recording, handling};
+ghost use Rattle.thread.specs.Texasr.{rot, tl, packed, cause-bits};
+ghost use Rattle.thread.specs.Thread.{in-state, take-checkpoint, restore, failed, suspended, noted, recording, handling, is-live, other-recording, felled};
+use transaction::Cause;
+use transaction::Touch;
 use transaction::Transaction;
+use transaction::Write;
 
 // 32 general registers, and CR fields 1 to 7: cr[0] is field 1. CR0 stands apart, since no checkpoint holds it.
 #[repr(C)]
@@ -19,15 +22,26 @@ pub enum State {
     S,
 }
 
-pub struct Control {
-    pub nia: u64,
+// The machine state, which an interrupt changes: PR, TM, the transaction's state, and TDOOMED.
+pub struct Msr {
     pub pr: bool,
     pub tm: bool,
     pub state: State,
     pub doomed: bool,
+}
+
+// The failure registers.
+pub struct Failure {
     pub tfhar: u64,
     pub tfiar: u64,
     pub texasr: u64,
+}
+
+// The next address, the machine state and the failure registers.
+pub struct Control {
+    pub nia: u64,
+    pub msr: Msr,
+    pub failure: Failure,
 }
 
 pub struct Thread {
@@ -38,18 +52,13 @@ pub struct Thread {
     pub transaction: Transaction,
 }
 
-// The causes that are recorded, each for the upper half of TEXASR.
-pub const DISALLOWED: u64 = 0x0080_0000;
-
-pub const NESTING: u64 = 0x0040_0000;
-
-pub const OVERFLOW: u64 = 0x0020_0000;
-
-pub const SELF_CONFLICT: u64 = 0x0010_0000;
-
-pub const PLAIN_CONFLICT: u64 = 0x0008_0000;
-
-pub const CONFLICT: u64 = 0x0004_0000;
+// What an event does, decided before anything changes: its answer, its own thread afterwards, what it touches and what it writes.
+pub struct Effect {
+    pub answer: u8,
+    pub thread: Thread,
+    pub touch: Touch,
+    pub write: Write,
+}
 
 // The weights of TEXASR's bits 32 (suspended), 35 (PR), 36 (FS), 37 (exact) and 38 (ROT), with bit 0 the highest, and of what lies above the level.
 const SUSPENDED: u64 = 0x8000_0000;
@@ -90,19 +99,37 @@ pub fn packed(cause: u64, suspended: u64, pr: u64, exact: u64, r: u64, level: u6
     cause * UPPER + suspended * SUSPENDED + pr * PROBLEM + SUMMARY + exact * EXACT + r * ROT + level
 }
 
+// A cause's 32 bits, for the upper half.
+pub fn cause_bits(cause: Cause) -> u64
+    ensures { λ r. ⌜ r ≡ cause-bits cause ⌝ }
+    ensures { λ r. ⌜ r < 2 ^ 32 ⌝ }
+{
+    match cause {
+        Cause::Disallowed => 0x0080_0000,
+        Cause::Nesting => 0x0040_0000,
+        Cause::Footprint => 0x0020_0000,
+        Cause::OwnStore => 0x0010_0000,
+        Cause::PlainConflict => 0x0008_0000,
+        Cause::Conflict => 0x0004_0000,
+        Cause::Abort(code) => code as u64 * 0x100_0000 + 1,
+    }
+}
+
 // The control registers in another state, with TDOOMED.
 pub fn in_state(k: Control, s: State, doomed: bool) -> Control
     ensures { λ r. ⌜ r ≡ in-state k s doomed ⌝ }
 {
+    let m = k.msr;
+    let failure = k.failure;
     Control {
         nia: k.nia,
-        pr: k.pr,
-        tm: k.tm,
-        state: s,
-        doomed,
-        tfhar: k.tfhar,
-        tfiar: k.tfiar,
-        texasr: k.texasr,
+        msr: Msr {
+            pr: m.pr,
+            tm: m.tm,
+            state: s,
+            doomed,
+        },
+        failure,
     }
 }
 
@@ -110,7 +137,8 @@ pub fn in_state(k: Control, s: State, doomed: bool) -> Control
 pub fn failed(k: Control) -> bool
     ensures { λ r. ⌜ r ≡ failed k ⌝ }
 {
-    k.texasr / SUMMARY % 2 == 1
+    let f = k.failure;
+    f.texasr / SUMMARY % 2 == 1
 }
 
 fn suspended(s: State) -> u64
@@ -144,37 +172,43 @@ pub fn restore(t: Thread) -> Thread
     u
 }
 
-// The control registers with a cause noted for an instruction's address.
-fn noted(k: Control, cause: u64, exact: bool, at: u64) -> Control
-    requires { ⌜ cause < 2 ^ 32 ⌝ }
+// The failure registers with a cause noted for an instruction's address.
+fn noted(k: Control, cause: Cause, exact: bool, at: u64) -> Failure
     ensures { λ r. ⌜ r ≡ noted k cause exact at ⌝ }
 {
-    let s = k.state;
-    let old = k.texasr;
-    let pr = base::bit(k.pr);
-    let texasr = packed(cause, suspended(s), pr, base::bit(exact), rot(old), tl(old));
-    Control {
-        nia: k.nia,
-        pr: k.pr,
-        tm: k.tm,
-        state: s,
-        doomed: true,
-        tfhar: k.tfhar,
+    let m = k.msr;
+    let f = k.failure;
+    let s = m.state;
+    let old = f.texasr;
+    let pr = base::bit(m.pr);
+    let texasr = packed(
+        cause_bits(cause),
+        suspended(s),
+        pr,
+        base::bit(exact),
+        rot(old),
+        tl(old),
+    );
+    Failure {
+        tfhar: f.tfhar,
         tfiar: at - at % 4 + pr,
         texasr,
     }
 }
 
 // A cause recorded for an instruction's address, only if FS = 0: a second failure leaves the first.
-pub fn recording(t: Thread, cause: u64, exact: bool, at: u64) -> Thread
-    requires { ⌜ cause < 2 ^ 32 ⌝ }
+pub fn recording(t: Thread, cause: Cause, exact: bool, at: u64) -> Thread
     ensures { λ r. ⌜ r ≡ recording t cause exact at ⌝ }
 {
     let k = t.control;
     if failed(k) {
         return t;
     }
-    let control = noted(k, cause, exact, at);
+    let failure = noted(k, cause, exact, at);
+    let m = k.msr;
+    let s = m.state;
+    let mut control = in_state(k, s, true);
+    control.failure = failure;
     let x = t.transaction;
     let transaction = transaction::discard(x);
     let mut u = t;
@@ -188,10 +222,47 @@ pub fn handling(t: Thread) -> Thread
     ensures { λ r. ⌜ r ≡ handling t ⌝ }
 {
     let k = t.control;
+    let f = k.failure;
     let mut control = in_state(k, State::N, false);
-    control.nia = k.tfhar;
+    control.nia = f.tfhar;
     let mut u = restore(t);
     u.control = control;
     u.cr0 = 0b1010;
     u
+}
+
+// A cause recorded by another thread's event, at the failing thread's own NIA.
+fn other_recording(t: Thread, cause: Cause) -> Thread
+    ensures { λ r. ⌜ r ≡ other-recording t cause ⌝ }
+{
+    let k = t.control;
+    recording(t, cause, false, k.nia)
+}
+
+// The transaction is live: in T, and in S until it is doomed.
+pub fn is_live(s: State, doomed: bool) -> bool
+    ensures { λ r. ⌜ r ≡ is-live s doomed ⌝ }
+{
+    match s {
+        State::N => false,
+        State::T => true,
+        State::S => !doomed,
+    }
+}
+
+// A live transaction that another thread's event fails: in T it is handled too, in S it waits for tresume.
+pub fn felled(t: Thread, cause: Cause) -> Thread
+    ensures { λ r. ⌜ r ≡ felled (t .control .msr .state) t cause ⌝ }
+{
+    let k = t.control;
+    let m = k.msr;
+    let s = m.state;
+    match s {
+        State::N => t,
+        State::T => {
+            let u = other_recording(t, cause);
+            handling(u)
+        }
+        State::S => other_recording(t, cause),
+    }
 }

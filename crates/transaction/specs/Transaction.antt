@@ -11,6 +11,8 @@ use Rattle.transaction.specs.declared.Entry.{Entry}
 use Rattle.transaction.specs.declared.Transaction.{Transaction}
 use Rattle.transaction.specs.declared.Found.{Found}
 use Rattle.transaction.specs.declared.Found.the-variants.{At, Absent}
+use Rattle.transaction.specs.declared.Write.{Write}
+use Rattle.transaction.specs.declared.Write.the-variants.{Unwritten, Doubleword, Log}
 
 -- a place that is not used
 abbrev pub no-entry : Entry
@@ -86,3 +88,9 @@ commit-in mem es (suc n) = set (commit-in mem es n) (entry es n .index) (entry e
 
 abbrev pub commit : Transaction → List ℕ → List ℕ
 commit x mem = commit-in mem (x .log) (x .count)
+
+-- memory after what an event writes; the log is that of the thread before the event
+unfoldable pub written : Write → Transaction → List ℕ → List ℕ
+written Unwritten x mem = mem
+written (Doubleword i v) x mem = set mem i v
+written Log x mem = commit x mem

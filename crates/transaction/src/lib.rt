@@ -2,9 +2,9 @@
 ghost use mathlib.Core.Path.{_≡_};
 ghost use mathlib.Core.Bool.{false};
 ghost use Prim.Native.Nat.{_<_, _≤_};
-ghost use lib.ListN.{length};
+ghost use lib.ListN.{length, set};
 ghost use Rattle.base.specs.Limits.{lines, most-places};
-ghost use Rattle.transaction.specs.Transaction.{line, empty, discard, lookup, load, crowded, full, join, store-at, commit};
+ghost use Rattle.transaction.specs.Transaction.{line, empty, discard, lookup, load, crowded, full, join, store-at, commit, written};
 use base::FOOTPRINT;
 use base::LINE;
 use base::PLACES;
@@ -30,6 +30,31 @@ pub struct Transaction {
 pub enum Found {
     At(usize),
     Absent,
+}
+
+// Why a transaction fails. How that is recorded is its thread's family's affair.
+pub enum Cause {
+    Disallowed,
+    Nesting,
+    Footprint,
+    OwnStore,
+    PlainConflict,
+    Conflict,
+    Abort(u8),
+}
+
+// What an event touches: nothing, or a line by a load or by a store. Other threads' transactions are held against it.
+pub enum Touch {
+    Untouched,
+    Load(usize),
+    Store(usize),
+}
+
+// What an event writes to memory: nothing, a doubleword, or the log of its thread's transaction.
+pub enum Write {
+    Unwritten,
+    Doubleword { index: u32, value: u64 },
+    Log,
 }
 
 // What holds nothing.
@@ -160,5 +185,27 @@ pub fn commit(x: Transaction, mem: &mut [u64])
         if at < mem.len() {
             mem[at] = e.value;
         }
+    }
+}
+
+// A doubleword stored; an index past the end changes nothing.
+fn put(mem: &mut [u64], index: u32, value: u64)
+    ensures { λ r. ⌜ now (mem .exit) ≡ set (now (mem .entry)) index value ⌝ }
+{
+    let at = index as usize;
+    if at < mem.len() {
+        mem[at] = value;
+    }
+}
+
+// What an event writes, of a thread whose transaction was x before it.
+pub fn written(w: Write, x: Transaction, mem: &mut [u64])
+    requires { ⌜ x .count ≤ most-places ⌝ }
+    ensures { λ r. ⌜ now (mem .exit) ≡ written w x (now (mem .entry)) ⌝ }
+{
+    match w {
+        Write::Unwritten => {}
+        Write::Doubleword { index, value } => put(mem, index, value),
+        Write::Log => commit(x, mem),
     }
 }

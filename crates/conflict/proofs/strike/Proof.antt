@@ -15,15 +15,15 @@ use Rattle.conflict.proofs.strike.Statement.{statement}
 use Rattle.conflict.proofs.strike.Tie as tie
 
 abbrev Inv-loop : tie.InvT-loop
-Inv-loop w stores l cause m n₀ i₀ n i = (i ≤ 4) × (n ≡ with-threads m (strike (m .threads) w stores l cause i))
+Inv-loop w touch cause m n₀ i₀ n i = (i ≤ 4) × (n ≡ with-threads m (strike (m .threads) w touch cause i))
 
 abbrev μ-loop : tie.MeasureT-loop
-μ-loop w stores l cause m n₀ i₀ n i = 4 - i
+μ-loop w touch cause m n₀ i₀ n i = 4 - i
 
 loop-holds : tie.Need-loop-holds Inv-loop μ-loop
 loop-holds c =
     let s = c .args in
-    (omega arith, ap (with-threads (s .t1)) (strike-none (s .t1 .threads) (s .w) (s .stores) (s .l) (s .cause)))
+    (omega arith, ap (with-threads (s .t1)) (strike-none (s .t1 .threads) (s .w) (s .touch) (s .cause)))
 
 mul-t : tie.Need-mul-t Inv-loop μ-loop
 mul-t c = search needs
@@ -51,17 +51,17 @@ loop-again c =
     let a = c .before .before in
     let s = a .before .args in
     let i = a .loop .i in
-    let so-far = strike (s .t1 .threads) (s .w) (s .stores) (s .l) (s .cause) i in
+    let so-far = strike (s .t1 .threads) (s .w) (s .touch) (s .cause) i in
     let t = thread (s .t1 .threads) i in
-    let now : c .if1 .n ≡ with-threads (s .t1) (cond (eqb i (s .w)) so-far (set so-far i (struck (t .control .state) t (s .stores) (s .l) (s .cause)))) =
+    let now : c .if1 .n ≡ with-threads (s .t1) (cond (eqb i (s .w)) so-far (set so-far i (struck (t .control .msr .state) t (s .touch) (s .cause)))) =
     ⊎-elim (λ w. w .3 ∙ simp (a .loop .inv .1, w .2 .ensures, ne-eqb _ _ (w .0 .taken))) (λ w. w .1 ∙ simp (a .loop .inv .1, eq-eqb _ _ (w .0 .left))) (c .if1 .came) in
-    (omega arith, now ∙ ap (with-threads (s .t1)) (sym (strike-step (s .t1 .threads) (s .w) (s .stores) (s .l) (s .cause) i)))
+    (omega arith, now ∙ ap (with-threads (s .t1)) (sym (strike-step (s .t1 .threads) (s .w) (s .touch) (s .cause) i)))
 
 returns : tie.Need-returns Inv-loop μ-loop
 returns c =
     let s = c .before .before .args in
     c .before .loop .inv .1
-    ∙ ap (λ (k : ℕ). with-threads (s .t1) (strike (s .t1 .threads) (s .w) (s .stores) (s .l) (s .cause) k)) (let e : c .before .loop .i ≡ 4 = omega arith in e)
+    ∙ ap (λ (k : ℕ). with-threads (s .t1) (strike (s .t1 .threads) (s .w) (s .touch) (s .cause) k)) (let e : c .before .loop .i ≡ 4 = omega arith in e)
 
 pub strike-spec : {M : Type 1} → statement M
 strike-spec =

@@ -12,7 +12,7 @@ abort-requires c κs = search needs
 
 returns : tie.Need-returns
 unfolding tabort
-returns c = simp (c .abort .ensures, c .before .abort-cause .ensures .0)
+returns c = simp (c .abort .ensures, c .before .abort-cause .ensures)
 
 pub tabort-spec : {M : Type 1} → statement M
 tabort-spec = tie.close (tie.spec abort-cause-requires abort-requires returns)

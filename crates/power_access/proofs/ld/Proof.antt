@@ -10,6 +10,9 @@ enum-told c = search needs
 takes-requires : tie.Need-takes-requires
 takes-requires c κs = search needs
 
+loads-requires : tie.Need-loads-requires
+loads-requires c κs = search needs
+
 enum-told-2 : tie.Need-enum-told-2
 enum-told-2 c = search needs
 
@@ -22,9 +25,12 @@ enum-told-3 c = search needs
 takes-requires-2 : tie.Need-takes-requires-2
 takes-requires-2 c κs = search needs
 
+loads-requires-2 : tie.Need-loads-requires-2
+loads-requires-2 c κs = search needs
+
 returns : tie.Need-returns
 unfolding ld
-returns c = simp (c .takes .ensures, c .before .enum-told .given .1)
+returns c = simp (c .loads .ensures, c .before .takes .ensures, c .before .before .enum-told .given .1)
 
 returns-2 : tie.Need-returns-2
 unfolding ld
@@ -32,7 +38,7 @@ returns-2 c = simp (c .ld-transactional .ensures, c .before .enum-told2 .given .
 
 returns-3 : tie.Need-returns-3
 unfolding ld
-returns-3 c = simp (c .takes2 .ensures, c .before .enum-told3 .given .1)
+returns-3 c = simp (c .loads2 .ensures, c .before .takes2 .ensures, c .before .before .enum-told3 .given .1)
 
 pub ld-spec : {M : Type 1} → statement M
 ld-spec =
@@ -40,10 +46,12 @@ ld-spec =
     (tie.spec
     enum-told
     takes-requires
+    loads-requires
     enum-told-2
     ld-transactional-requires
     enum-told-3
     takes-requires-2
+    loads-requires-2
     returns
     returns-2
     returns-3)

@@ -1,5 +1,5 @@
 -- `power_access::ld_transactional` meets its contract.
-use Rattle.power_access.specs.Access.{ld, ld-overflows}
+use Rattle.power_access.specs.Access.{ld}
 use mathlib.Core.Path.{sym, _∙_}
 use borrow.Author.Needs.{needs}
 use Rattle.power_access.proofs.ld_transactional.Statement.{statement}
@@ -14,9 +14,15 @@ crowded-requires c κs = search needs
 fails-requires : tie.Need-fails-requires
 fails-requires c κs = search needs
 
+quiet-requires : tie.Need-quiet-requires
+quiet-requires c κs = search needs
+
 returns : tie.Need-returns
-unfolding ld ld-overflows
-returns c = simp (c .fails .ensures, sym (c .before .before .crowded .ensures) ∙ c .before .if2 .taken, sym (c .before .before .before .before .before .tracked .ensures) ∙ c .before .before .before .before .if1 .taken)
+unfolding ld
+returns c =
+    let i = c .before .before in
+    let o = i .before .before .before in
+    simp (c .quiet .ensures, c .before .fails .ensures, sym (i .before .crowded .ensures) ∙ i .if2 .taken, sym (o .before .tracked .ensures) ∙ o .if1 .taken)
 
 joins-requires : tie.Need-joins-requires
 joins-requires c κs = search needs
@@ -24,16 +30,27 @@ joins-requires c κs = search needs
 takes-requires : tie.Need-takes-requires
 takes-requires c κs = rw (c .joins .ensures) (search needs)
 
+loads-requires : tie.Need-loads-requires
+loads-requires c κs = search needs
+
 returns-2 : tie.Need-returns-2
-unfolding ld ld-overflows
-returns-2 c = simp (c .takes .ensures, c .before .joins .ensures, sym (c .before .before .before .crowded .ensures) ∙ c .before .before .if2 .left, sym (c .before .before .before .before .before .before .tracked .ensures) ∙ c .before .before .before .before .before .if1 .taken)
+unfolding ld
+returns-2 c =
+    let i = c .before .before .before in
+    let o = i .before .before .before in
+    simp (c .loads .ensures, c .before .takes .ensures, c .before .before .joins .ensures, sym (i .before .crowded .ensures) ∙ i .if2 .left, sym (o .before .tracked .ensures) ∙ o .if1 .taken)
 
 takes-requires-2 : tie.Need-takes-requires-2
 takes-requires-2 c κs = search needs
 
+loads-requires-2 : tie.Need-loads-requires-2
+loads-requires-2 c κs = search needs
+
 returns-3 : tie.Need-returns-3
-unfolding ld ld-overflows
-returns-3 c = simp (c .takes2 .ensures, sym (c .before .before .tracked .ensures) ∙ c .before .if1 .left)
+unfolding ld
+returns-3 c =
+    let o = c .before .before in
+    simp (c .loads2 .ensures, c .before .takes2 .ensures, sym (o .before .tracked .ensures) ∙ o .if1 .left)
 
 pub ld-transactional-spec : {M : Type 1} → statement M
 ld-transactional-spec =
@@ -42,9 +59,12 @@ ld-transactional-spec =
     tracked-requires
     crowded-requires
     fails-requires
+    quiet-requires
     returns
     joins-requires
     takes-requires
+    loads-requires
     returns-2
     takes-requires-2
+    loads-requires-2
     returns-3)

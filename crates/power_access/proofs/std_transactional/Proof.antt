@@ -1,5 +1,5 @@
 -- `power_access::std_transactional` meets its contract.
-use Rattle.power_access.specs.Access.{logs, std-overflows}
+use Rattle.power_access.specs.Access.{logs}
 use mathlib.Core.Path.{_≡_, sym, ap, _∙_}
 use Rattle.transaction.specs.Transaction.{lookup, full}
 use borrow.Author.Needs.{needs}
@@ -16,9 +16,14 @@ crowded-requires c κs = search needs
 fails-requires : tie.Need-fails-requires
 fails-requires c κs = search needs
 
+quiet-requires : tie.Need-quiet-requires
+quiet-requires c κs = search needs
+
 returns : tie.Need-returns
-unfolding logs std-overflows
-returns c = simp (c .fails .ensures, sym (c .before .before .crowded .ensures) ∙ c .before .if1 .taken)
+unfolding logs
+returns c =
+    let i = c .before .before in
+    simp (c .quiet .ensures, c .before .fails .ensures, sym (i .before .crowded .ensures) ∙ i .if1 .taken)
 
 lookup-requires : tie.Need-lookup-requires
 lookup-requires c κs = search needs
@@ -29,13 +34,15 @@ full-requires c κs = search needs
 fails-requires-2 : tie.Need-fails-requires-2
 fails-requires-2 c κs = search needs
 
+quiet-requires-2 : tie.Need-quiet-requires-2
+quiet-requires-2 c κs = search needs
+
 returns-2 : tie.Need-returns-2
-unfolding logs std-overflows
+unfolding logs
 returns-2 c =
-    let f = c .before .before in
-    let l = f .before in
-    let k = l .before .before in
-    simp (c .fails2 .ensures, sym (k .crowded .ensures) ∙ l .before .if1 .left, filled f ∙ c .before .if2 .taken)
+    let i = c .before .before in
+    let l = i .before .before in
+    simp (c .quiet2 .ensures, c .before .fails2 .ensures, sym (l .before .before .crowded .ensures) ∙ l .before .if1 .left, filled (i .before) ∙ i .if2 .taken)
 
 store-at-requires : tie.Need-store-at-requires
 store-at-requires c κs =
@@ -45,13 +52,15 @@ store-at-requires c κs =
 passes-requires : tie.Need-passes-requires
 passes-requires c κs = search needs
 
+stores-requires : tie.Need-stores-requires
+stores-requires c κs = search needs
+
 returns-3 : tie.Need-returns-3
-unfolding logs std-overflows
+unfolding logs
 returns-3 c =
-    let f = c .before .before .before in
-    let l = f .before in
-    let k = l .before .before in
-    simp (c .passes .ensures, c .before .store-at .ensures, sym (k .crowded .ensures) ∙ l .before .if1 .left, filled f ∙ c .before .before .if2 .left, l .lookup .ensures)
+    let i = c .before .before .before in
+    let l = i .before .before in
+    simp (c .stores .ensures, c .before .passes .ensures, c .before .before .store-at .ensures, sym (l .before .before .crowded .ensures) ∙ l .before .if1 .left, filled (i .before) ∙ i .if2 .left, l .lookup .ensures)
 
 pub std-transactional-spec : {M : Type 1} → statement M
 std-transactional-spec =
@@ -59,11 +68,14 @@ std-transactional-spec =
     (tie.spec
     crowded-requires
     fails-requires
+    quiet-requires
     returns
     lookup-requires
     full-requires
     fails-requires-2
+    quiet-requires-2
     returns-2
     store-at-requires
     passes-requires
+    stores-requires
     returns-3)

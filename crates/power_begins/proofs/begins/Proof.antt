@@ -9,14 +9,18 @@ next-requires c κs = search needs
 bit-requires : tie.Need-bit-requires
 bit-requires c κs = search needs
 
-mul-t7 : tie.Need-mul-t7
-mul-t7 c = search needs
+mul-t9 : tie.Need-mul-t9
+mul-t9 c = search needs
 
-add-t8 : tie.Need-add-t8
-add-t8 c = search needs
+add-t10 : tie.Need-add-t10
+add-t10 c = search needs
+
+in-state-requires : tie.Need-in-state-requires
+in-state-requires c κs = search needs
 
 returns : tie.Need-returns
-returns c = simp (c .bit .ensures .0, c .before .next .ensures)
+returns c = simp (c .in-state .ensures, c .before .bit .ensures .0, c .before .before .next .ensures)
 
 pub begins-spec : {M : Type 1} → statement M
-begins-spec = tie.close (tie.spec next-requires bit-requires mul-t7 add-t8 returns)
+begins-spec =
+    tie.close (tie.spec next-requires bit-requires mul-t9 add-t10 in-state-requires returns)

@@ -10,7 +10,7 @@ tl-requires : tie.Need-tl-requires
 tl-requires c κs = search needs
 
 returns-2 : tie.Need-returns-2
-returns-2 c = simp (c .tl .ensures .0, c .before .before .if1 .left)
+returns-2 c = simp (c .tl .ensures .0, c .before .before .before .if1 .left)
 
 pub commits-spec : {M : Type 1} → statement M
 commits-spec = tie.close (tie.spec returns tl-requires returns-2)

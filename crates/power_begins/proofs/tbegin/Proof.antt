@@ -27,7 +27,7 @@ returns : tie.Need-returns
 unfolding tbegin
 returns c =
     let l = c .before .before in
-    simp (c .fails .ensures, ap (leb most-levels) (sym (l .tl .ensures .0)) ∙ le-leb _ _ (c .before .if1 .taken), l .before .enum-told2 .given .1)
+    simp (c .fails .ensures, ap (leb most-levels) (sym (l .tl .ensures .0)) ∙ le-leb _ _ (c .before .if1 .taken), l .before .before .enum-told2 .given .1)
 
 add-leveled : tie.Need-add-leveled
 add-leveled c = search needs
@@ -49,7 +49,7 @@ returns-3 : tie.Need-returns-3
 unfolding tbegin
 returns-3 c =
     let l = c .before .before .before in
-    simp (c .leveled .ensures, ap (leb most-levels) (sym (l .tl .ensures .0)) ∙ lt-leb _ _ (c .before .before .if1 .left), l .before .enum-told2 .given .1)
+    simp (c .leveled .ensures, ap (leb most-levels) (sym (l .tl .ensures .0)) ∙ lt-leb _ _ (c .before .before .if1 .left), l .before .before .enum-told2 .given .1)
 
 returns-4 : tie.Need-returns-4
 unfolding tbegin

@@ -4,12 +4,12 @@ use borrow.Author.Needs.{needs}
 use Rattle.power_plain.proofs.host.Statement.{statement}
 use Rattle.power_plain.proofs.host.Tie as tie
 
-with-msr-requires : tie.Need-with-msr-requires
-with-msr-requires c κs = search needs
+asked-requires : tie.Need-asked-requires
+asked-requires c κs = search needs
 
 returns : tie.Need-returns
 unfolding host
-returns c = simp (c .with-msr .ensures)
+returns c = simp (c .asked .ensures)
 
 pub host-spec : {M : Type 1} → statement M
-host-spec = tie.close (tie.spec with-msr-requires returns)
+host-spec = tie.close (tie.spec asked-requires returns)

@@ -7,12 +7,12 @@ use Rattle.power_plain.proofs.interrupt.Tie as tie
 interrupted-requires : tie.Need-interrupted-requires
 interrupted-requires c κs = search needs
 
-with-msr-requires : tie.Need-with-msr-requires
-with-msr-requires c κs = search needs
+asked-requires : tie.Need-asked-requires
+asked-requires c κs = search needs
 
 returns : tie.Need-returns
 unfolding interrupt
-returns c = simp (c .with-msr .ensures, c .before .interrupted .ensures)
+returns c = simp (c .asked .ensures, c .before .interrupted .ensures)
 
 pub interrupt-spec : {M : Type 1} → statement M
-interrupt-spec = tie.close (tie.spec interrupted-requires with-msr-requires returns)
+interrupt-spec = tie.close (tie.spec interrupted-requires asked-requires returns)

@@ -21,7 +21,7 @@ passes-requires c κs = search needs
 
 returns : tie.Need-returns
 unfolding treclaim
-returns c = simp (c .passes .ensures, c .before .ts-field .ensures .0, c .before .before .reclaims .ensures, c .before .before .before .own-recording .ensures, c .before .before .before .before .abort-cause .ensures .0)
+returns c = simp (c .passes .ensures, c .before .ts-field .ensures .0, c .before .before .reclaims .ensures, c .before .before .before .own-recording .ensures, c .before .before .before .before .abort-cause .ensures)
 
 pub treclaim-spec : {M : Type 1} → statement M
 treclaim-spec =

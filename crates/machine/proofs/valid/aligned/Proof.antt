@@ -10,7 +10,7 @@ returns c = simp (ne-eqb _ _ (c .if1 .taken))
 
 returns-2 : tie.Need-returns-2
 unfolding aligned
-returns-2 c = simp (eq-eqb _ _ (c .before .if1 .left))
+returns-2 c = simp (eq-eqb _ _ (c .before .before .if1 .left))
 
 pub aligned-spec : {M : Type 1} → statement M
 aligned-spec = tie.close (tie.spec returns returns-2)

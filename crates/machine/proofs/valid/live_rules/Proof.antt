@@ -19,14 +19,14 @@ tl-requires c κs = search needs
 returns-2 : tie.Need-returns-2
 unfolding live-rules
 returns-2 c =
-    let e1 = c .before .before in
+    let e1 = c .before .before .before in
     simp (lt-leb _ _ (rw (c .before .tl .ensures .0) at (c .if2 .taken)), sym (e1 .before .failed .ensures) ∙ e1 .if1 .left)
 
 returns-3 : tie.Need-returns-3
 unfolding live-rules
 returns-3 c =
     let e2 = c .before in
-    let e1 = e2 .before .before in
+    let e1 = e2 .before .before .before in
     simp (lt-leb _ _ (rw (e2 .before .tl .ensures .0) at (c .if3 .taken)), le-leb _ _ (rw (e2 .before .tl .ensures .0) at (e2 .if2 .left)), sym (e1 .before .failed .ensures) ∙ e1 .if1 .left)
 
 footprint-requires : tie.Need-footprint-requires
@@ -37,7 +37,7 @@ unfolding live-rules
 returns-4 c =
     let e3 = c .before .before .before .before in
     let e2 = e3 .before in
-    let e1 = e2 .before .before in
+    let e1 = e2 .before .before .before in
     simp (c .footprint .ensures, le-leb _ _ (rw (e2 .before .tl .ensures .0) at (e3 .if3 .left)), le-leb _ _ (rw (e2 .before .tl .ensures .0) at (e2 .if2 .left)), sym (e1 .before .failed .ensures) ∙ e1 .if1 .left)
 
 pub live-rules-spec : {M : Type 1} → statement M

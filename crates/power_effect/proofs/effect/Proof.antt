@@ -1,18 +1,21 @@
--- `power_effect::own` meets its contract.
-use Rattle.power_effect.specs.Events.{own}
+-- `power_effect::effect` meets its contract.
 use borrow.Author.Tests.{ltb-true}
+use native.Mathlib.Omega.{arith}
 use Rattle.event.specs.Event.{operands-right}
 use Rattle.event.proofs.Laws.{pair-registers, compare-registers, special-register, access-in}
-use native.Mathlib.Omega.{arith}
+use Rattle.power_effect.specs.Effects.{effect}
 use borrow.Author.Needs.{needs}
-use Rattle.power_effect.proofs.own.Statement.{statement}
-use Rattle.power_effect.proofs.own.Tie as tie
+use Rattle.power_effect.proofs.effect.Statement.{statement}
+use Rattle.power_effect.proofs.effect.Tie as tie
 
 enum-known-e : tie.Need-enum-known-e
 enum-known-e c = search needs
 
 tbegin-requires : tie.Need-tbegin-requires
 tbegin-requires c κs = search needs
+
+quiet-requires : tie.Need-quiet-requires
+quiet-requires c κs = search needs
 
 enum-known-e-2 : tie.Need-enum-known-e-2
 enum-known-e-2 c = search needs
@@ -30,6 +33,9 @@ tabort-requires c κs =
     let p = rw (e .e3 .given .1) at (e .before .before .before .pre .0) in
     ltb-true _ 32 p
 
+quiet-requires-2 : tie.Need-quiet-requires-2
+quiet-requires-2 c κs = search needs
+
 enum-known-e-4 : tie.Need-enum-known-e-4
 enum-known-e-4 c = search needs
 
@@ -39,6 +45,9 @@ tabortwc-requires c κs =
     let e = c .before in
     let p = rw (e .e4 .given .1) at (e .before .before .before .pre .0) in
     compare-registers (e .e4 .given .0 .0) (e .e4 .given .0 .1 .0) (e .e4 .given .0 .1 .1 .0) p
+
+quiet-requires-3 : tie.Need-quiet-requires-3
+quiet-requires-3 c κs = search needs
 
 enum-known-e-5 : tie.Need-enum-known-e-5
 enum-known-e-5 c = search needs
@@ -50,11 +59,17 @@ tabortdc-requires c κs =
     let p = rw (e .e5 .given .1) at (e .before .before .before .pre .0) in
     compare-registers (e .e5 .given .0 .0) (e .e5 .given .0 .1 .0) (e .e5 .given .0 .1 .1 .0) p
 
+quiet-requires-4 : tie.Need-quiet-requires-4
+quiet-requires-4 c κs = search needs
+
 enum-known-e-6 : tie.Need-enum-known-e-6
 enum-known-e-6 c = search needs
 
 tsr-requires : tie.Need-tsr-requires
 tsr-requires c κs = search needs
+
+quiet-requires-5 : tie.Need-quiet-requires-5
+quiet-requires-5 c κs = search needs
 
 enum-known-e-7 : tie.Need-enum-known-e-7
 enum-known-e-7 c = search needs
@@ -66,6 +81,9 @@ tcheck-requires c κs =
     let p = rw (e .e7 .given .1) at (e .before .before .before .pre .0) in
     ltb-true _ 8 p
 
+quiet-requires-6 : tie.Need-quiet-requires-6
+quiet-requires-6 c κs = search needs
+
 enum-known-e-8 : tie.Need-enum-known-e-8
 enum-known-e-8 c = search needs
 
@@ -76,11 +94,17 @@ treclaim-requires c κs =
     let p = rw (e .e8 .given .1) at (e .before .before .before .pre .0) in
     ltb-true _ 32 p
 
+quiet-requires-7 : tie.Need-quiet-requires-7
+quiet-requires-7 c κs = search needs
+
 enum-told : tie.Need-enum-told
 enum-told c = search needs
 
 trechkpt-requires : tie.Need-trechkpt-requires
 trechkpt-requires c κs = search needs
+
+quiet-requires-8 : tie.Need-quiet-requires-8
+quiet-requires-8 c κs = search needs
 
 enum-known-e-9 : tie.Need-enum-known-e-9
 enum-known-e-9 c = search needs
@@ -92,6 +116,9 @@ mtspr-requires c κs =
     let p = rw (e .e9 .given .1) at (e .before .before .before .pre .0) in
     special-register (e .e9 .given .0 .0) (e .e9 .given .0 .1 .0) p
 
+quiet-requires-9 : tie.Need-quiet-requires-9
+quiet-requires-9 c κs = search needs
+
 enum-known-e-10 : tie.Need-enum-known-e-10
 enum-known-e-10 c = search needs
 
@@ -102,13 +129,16 @@ mfspr-requires c κs =
     let p = rw (e .e10 .given .1) at (e .before .before .before .pre .0) in
     special-register (e .e10 .given .0 .1 .0) (e .e10 .given .0 .0) p
 
+quiet-requires-10 : tie.Need-quiet-requires-10
+quiet-requires-10 c κs = search needs
+
 enum-known-e-11 : tie.Need-enum-known-e-11
 enum-known-e-11 c = search needs
 
 ld-requires : tie.Need-ld-requires
 unfolding operands-right
 ld-requires c κs =
-    let e = c .before .before in
+    let e = c .before in
     let s = e .before .before .before in
     let h = access-in (e .e11 .given .0 .0) (e .e11 .given .0 .1 .0) _ (rw (e .e11 .given .1) at (s .pre .0)) in
     (s .pre .1 .1, (h .0, (omega (arith, h .1, s .pre .1 .0), h .1)))
@@ -125,10 +155,10 @@ gpr-requires c κs =
 std-requires : tie.Need-std-requires
 unfolding operands-right
 std-requires c κs =
-    let e = c .before .before .before in
+    let e = c .before .before in
     let s = e .before .before .before in
     let h = access-in (e .e12 .given .0 .0) (e .e12 .given .0 .1 .0) _ (rw (e .e12 .given .1) at (s .pre .0)) in
-    (s .pre .1 .1, (omega (arith, h .1, s .pre .1 .0), h .1))
+    (s .pre .1 .1, omega (arith, h .1, s .pre .1 .0))
 
 enum-known-e-13 : tie.Need-enum-known-e-13
 enum-known-e-13 c = search needs
@@ -140,11 +170,17 @@ addi-requires c κs =
     let p = rw (e .e13 .given .1) at (e .before .before .before .pre .0) in
     pair-registers (e .e13 .given .0 .0) (e .e13 .given .0 .1 .0) p
 
+quiet-requires-11 : tie.Need-quiet-requires-11
+quiet-requires-11 c κs = search needs
+
 enum-told-2 : tie.Need-enum-told-2
 enum-told-2 c = search needs
 
 disallowed-requires : tie.Need-disallowed-requires
 disallowed-requires c κs = search needs
+
+quiet-requires-12 : tie.Need-quiet-requires-12
+quiet-requires-12 c κs = search needs
 
 enum-told-3 : tie.Need-enum-told-3
 enum-told-3 c = search needs
@@ -152,115 +188,122 @@ enum-told-3 c = search needs
 interrupt-requires : tie.Need-interrupt-requires
 interrupt-requires c κs = search needs
 
+quiet-requires-13 : tie.Need-quiet-requires-13
+quiet-requires-13 c κs = search needs
+
 enum-known-e-14 : tie.Need-enum-known-e-14
 enum-known-e-14 c = search needs
 
 host-requires : tie.Need-host-requires
 host-requires c κs = search needs
 
-returns : tie.Need-returns
-unfolding own
-returns c = (simp (c .tbegin .ensures, c .before .before .e .given .1), simp (c .before .before .e .given .1))
+quiet-requires-14 : tie.Need-quiet-requires-14
+quiet-requires-14 c κs = search needs
 
-same-length : tie.Need-same-length
-same-length c = search needs
+returns : tie.Need-returns
+unfolding effect
+returns c = simp (c .quiet .ensures, c .before .tbegin .ensures, c .before .before .before .e .given .1)
 
 returns-2 : tie.Need-returns-2
-unfolding own
-returns-2 c = (simp (c .before .before .tend .ensures .0, c .before .before .before .before .before .e2 .given .1), simp (c .before .before .tend .ensures .1, c .before .before .before .before .before .e2 .given .1))
+unfolding effect
+returns-2 c = simp (c .tend .ensures, c .before .before .e2 .given .1)
 
 returns-3 : tie.Need-returns-3
-unfolding own
-returns-3 c = (simp (c .tabort .ensures, c .before .before .e3 .given .1), simp (c .before .before .e3 .given .1))
+unfolding effect
+returns-3 c = simp (c .quiet2 .ensures, c .before .tabort .ensures, c .before .before .before .e3 .given .1)
 
 returns-4 : tie.Need-returns-4
-unfolding own
-returns-4 c = (simp (c .tabortwc .ensures, c .before .before .e4 .given .1), simp (c .before .before .e4 .given .1))
+unfolding effect
+returns-4 c = simp (c .quiet3 .ensures, c .before .tabortwc .ensures, c .before .before .before .e4 .given .1)
 
 returns-5 : tie.Need-returns-5
-unfolding own
-returns-5 c = (simp (c .tabortdc .ensures, c .before .before .e5 .given .1), simp (c .before .before .e5 .given .1))
+unfolding effect
+returns-5 c = simp (c .quiet4 .ensures, c .before .tabortdc .ensures, c .before .before .before .e5 .given .1)
 
 returns-6 : tie.Need-returns-6
-unfolding own
-returns-6 c = (simp (c .tsr .ensures, c .before .before .e6 .given .1), simp (c .before .before .e6 .given .1))
+unfolding effect
+returns-6 c = simp (c .quiet5 .ensures, c .before .tsr .ensures, c .before .before .before .e6 .given .1)
 
 returns-7 : tie.Need-returns-7
-unfolding own
-returns-7 c = (simp (c .tcheck .ensures, c .before .before .e7 .given .1), simp (c .before .before .e7 .given .1))
+unfolding effect
+returns-7 c = simp (c .quiet6 .ensures, c .before .tcheck .ensures, c .before .before .before .e7 .given .1)
 
 returns-8 : tie.Need-returns-8
-unfolding own
-returns-8 c = (simp (c .treclaim .ensures, c .before .before .e8 .given .1), simp (c .before .before .e8 .given .1))
+unfolding effect
+returns-8 c = simp (c .quiet7 .ensures, c .before .treclaim .ensures, c .before .before .before .e8 .given .1)
 
 returns-9 : tie.Need-returns-9
-unfolding own
-returns-9 c = (simp (c .trechkpt .ensures, c .before .enum-told .given .1), simp (c .before .enum-told .given .1))
+unfolding effect
+returns-9 c = simp (c .quiet8 .ensures, c .before .trechkpt .ensures, c .before .before .enum-told .given .1)
 
 returns-10 : tie.Need-returns-10
-unfolding own
-returns-10 c = (simp (c .mtspr .ensures, c .before .before .e9 .given .1), simp (c .before .before .e9 .given .1))
+unfolding effect
+returns-10 c = simp (c .quiet9 .ensures, c .before .mtspr .ensures, c .before .before .before .e9 .given .1)
 
 returns-11 : tie.Need-returns-11
-unfolding own
-returns-11 c = (simp (c .mfspr .ensures, c .before .before .e10 .given .1), simp (c .before .before .e10 .given .1))
-
-same-length-2 : tie.Need-same-length-2
-same-length-2 c = search needs
+unfolding effect
+returns-11 c = simp (c .quiet10 .ensures, c .before .mfspr .ensures, c .before .before .before .e10 .given .1)
 
 returns-12 : tie.Need-returns-12
-unfolding own
-returns-12 c = (simp (c .ld .ensures, c .before .before .before .e11 .given .1), simp (c .before .before .before .e11 .given .1))
-
-same-length-3 : tie.Need-same-length-3
-same-length-3 c = search needs
+unfolding effect
+returns-12 c = simp (c .ld .ensures, c .before .before .e11 .given .1)
 
 returns-13 : tie.Need-returns-13
-unfolding own
-returns-13 c = (simp (c .before .before .std .ensures .0, c .before .before .before .before .gpr .ensures, c .before .before .before .before .before .before .e12 .given .1), simp (c .before .before .std .ensures .1, c .before .before .before .before .gpr .ensures, c .before .before .before .before .before .before .e12 .given .1))
+unfolding effect
+returns-13 c = simp (c .std .ensures, c .before .gpr .ensures, c .before .before .before .e12 .given .1)
 
 returns-14 : tie.Need-returns-14
-unfolding own
-returns-14 c = (simp (c .addi .ensures, c .before .before .e13 .given .1), simp (c .before .before .e13 .given .1))
+unfolding effect
+returns-14 c = simp (c .quiet11 .ensures, c .before .addi .ensures, c .before .before .before .e13 .given .1)
 
 returns-15 : tie.Need-returns-15
-unfolding own
-returns-15 c = (simp (c .disallowed .ensures, c .before .enum-told2 .given .1), simp (c .before .enum-told2 .given .1))
+unfolding effect
+returns-15 c = simp (c .quiet12 .ensures, c .before .disallowed .ensures, c .before .before .enum-told2 .given .1)
 
 returns-16 : tie.Need-returns-16
-unfolding own
-returns-16 c = (simp (c .interrupt .ensures, c .before .enum-told3 .given .1), simp (c .before .enum-told3 .given .1))
+unfolding effect
+returns-16 c = simp (c .quiet13 .ensures, c .before .interrupt .ensures, c .before .before .enum-told3 .given .1)
 
 returns-17 : tie.Need-returns-17
-unfolding own
-returns-17 c = (simp (c .host .ensures, c .before .before .e14 .given .1), simp (c .before .before .e14 .given .1))
+unfolding effect
+returns-17 c = simp (c .quiet14 .ensures, c .before .host .ensures, c .before .before .before .e14 .given .1)
 
-pub own-spec : {M : Type 1} → statement M
-own-spec =
+pub effect-spec : {M : Type 1} → statement M
+effect-spec =
     tie.close
     (tie.spec
     enum-known-e
     tbegin-requires
+    quiet-requires
     enum-known-e-2
     tend-requires
     enum-known-e-3
     tabort-requires
+    quiet-requires-2
     enum-known-e-4
     tabortwc-requires
+    quiet-requires-3
     enum-known-e-5
     tabortdc-requires
+    quiet-requires-4
     enum-known-e-6
     tsr-requires
+    quiet-requires-5
     enum-known-e-7
     tcheck-requires
+    quiet-requires-6
     enum-known-e-8
     treclaim-requires
+    quiet-requires-7
     enum-told
     trechkpt-requires
+    quiet-requires-8
     enum-known-e-9
     mtspr-requires
+    quiet-requires-9
     enum-known-e-10
     mfspr-requires
+    quiet-requires-10
     enum-known-e-11
     ld-requires
     enum-known-e-12
@@ -268,14 +311,17 @@ own-spec =
     std-requires
     enum-known-e-13
     addi-requires
+    quiet-requires-11
     enum-told-2
     disallowed-requires
+    quiet-requires-12
     enum-told-3
     interrupt-requires
+    quiet-requires-13
     enum-known-e-14
     host-requires
+    quiet-requires-14
     returns
-    same-length
     returns-2
     returns-3
     returns-4
@@ -286,9 +332,7 @@ own-spec =
     returns-9
     returns-10
     returns-11
-    same-length-2
     returns-12
-    same-length-3
     returns-13
     returns-14
     returns-15

@@ -1,4 +1,4 @@
--- An event that is not refused keeps its own thread valid and memory's length.
+-- The effect of an event that is not refused: its thread is valid, and memory keeps its length.
 use mathlib.Core.Path.{_≡_, refl, ap}
 use mathlib.Core.Bool.{Bool, true, false, true≢false}
 use mathlib.Core.Logic.{inl, inr}
@@ -13,26 +13,32 @@ use Rattle.base.specs.Below.{bit}
 use Rattle.base.proofs.Below.{neither, fork, no-number, bit-lt}
 use Rattle.lines.proofs.Laws.{footprint-empty}
 use Rattle.transaction.specs.Transaction as transaction
+use Rattle.transaction.specs.declared.Cause.{Cause}
+use Rattle.transaction.specs.declared.Transaction.{Transaction}
+use Rattle.transaction.specs.declared.Write.{Write}
+use Rattle.transaction.specs.declared.Write.the-variants.{Unwritten, Doubleword, Log}
 use Rattle.transaction.proofs.Laws.{commit-length}
 use Rattle.event.specs.Event.{kind, operands-right}
 use Rattle.event.specs.declared.Event.{Event}
 use Rattle.event.specs.declared.Event.the-variants.{Tbegin, Tend, Tabort, Tabortwc, Tabortdc, Tsr, Tcheck, Treclaim, Trechkpt, Mtspr, Mfspr, Ld, Std, Addi, Disallowed, Interrupt, Host}
 use Rattle.event.proofs.Laws.{access-in}
-use Rattle.power_common.specs.Common.{Ran, passes, cr0-from-state, put-gpr, own-recording, fails, dooms, cr0-only, leveled, abort-cause}
+use Rattle.power_common.specs.Common.{passes, cr0-from-state, put-gpr, own-recording, fails, dooms, cr0-only, leveled, abort-cause}
 use Rattle.power_access.specs.Access.{tracked, ld-overflows, std-overflows, takes, joins, ld, logs, meets-own, std}
 use Rattle.power_aborts.specs.Aborts.{tabort, tabort-if}
 use Rattle.power_begins.specs.Begins.{begins, tbegin, commits, tend, moves, tsuspend, tresume, tsr}
 use Rattle.power_reclaims.specs.Reclaims.{check-field, tcheck, treclaim, trechkpt}
-use Rattle.power_special.specs.Special.{special, put-spr, mtspr, mfspr}
+use Rattle.power_special.specs.Special.{put-spr, mtspr, mfspr}
 use Rattle.power_plain.specs.Plain.{addi, disallowed, interrupted, interrupt, host}
-use Rattle.power_effect.specs.Events.{own}
+use Rattle.power_effect.specs.Effects.{effect}
 use Rattle.power_common.specs.declared.Did.{Did}
 use Rattle.thread.specs.Texasr.{tl, begun}
-use Rattle.thread.specs.Thread.{with-control, failed, recording}
+use Rattle.thread.specs.Thread.{with-control, with-failure, failed, recording}
 use Rattle.thread.specs.declared.State.{State}
 use Rattle.thread.specs.declared.State.the-variants.{N, T, S}
+use Rattle.thread.specs.declared.Failure.{Failure}
 use Rattle.thread.specs.declared.Control.{Control}
 use Rattle.thread.specs.declared.Thread.{Thread}
+use Rattle.thread.specs.declared.Effect.{Effect}
 use Rattle.thread.proofs.Laws.{begun-fs, begun-tl}
 use Rattle.machine.specs.Valid.{memory-sized, thread-valid}
 use Rattle.refusal.specs.Refusal.{host-in-t, off, forbidden, bad-thing, refused-there}
@@ -41,39 +47,12 @@ use Rattle.laws_keeping.proofs.Held.{join-shaped, store-shaped, join-he
 use Rattle.laws_keeping.proofs.Fails.{Filed, Addressed, Live, Rules, Right, right, valid, doomed-empty, undoomed-live, empty-holds, handled, failure-t, failure-s}
 use Rattle.laws_keeping.proofs.Anew.{ts-small, next-aligned, up, down, with-field, saved, with-controls, passed, from-state, with-gpr, with-cr, with-held}
 
--- ---- memory's length
-
-tend-length : (s : State) (t : Thread) (a : Bool) (mem : List ℕ) → length (tend s t a mem .memory) ≡ length mem
-unfolding tend
-tend-length N t a mem = refl
-tend-length T t a mem = fork (λ (r : Ran). length (r .memory) ≡ length mem) (commits t a) (λ p. commit-length mem _ _) (λ p. refl)
-tend-length S t a mem = refl
-
-std-length : (s : State) (t : Thread) (v i : ℕ) (mem : List ℕ) → length (std s t v i mem .memory) ≡ length mem
-unfolding std
-std-length N t v i mem = simp length-set
-std-length T t v i mem = refl
-std-length S t v i mem = simp length-set
-
-pub own-length : (e : Event) (t : Thread) (mem : List ℕ) → length (own e t mem .memory) ≡ length mem
-unfolding own
-own-length (Tbegin r) t mem = refl
-own-length (Tend a) t mem = tend-length (t .control .state) t a mem
-own-length (Tabort ra) t mem = refl
-own-length (Tabortwc to ra rb) t mem = refl
-own-length (Tabortdc to ra rb) t mem = refl
-own-length (Tsr l) t mem = refl
-own-length (Tcheck bf) t mem = refl
-own-length (Treclaim ra) t mem = refl
-own-length Trechkpt t mem = refl
-own-length (Mtspr spr ra) t mem = refl
-own-length (Mfspr rt spr) t mem = refl
-own-length (Ld rt i) t mem = refl
-own-length (Std ra i) t mem = std-length (t .control .state) t _ i mem
-own-length (Addi rt ra si) t mem = refl
-own-length Disallowed t mem = refl
-own-length Interrupt t mem = refl
-own-length (Host pr tm) t mem = refl
+-- what is written leaves memory as long as it was
+pub written-length : (w : Write) (x : Transaction) (mem : List ℕ) → length (transaction.written w x mem) ≡ length mem
+unfolding transaction.written
+written-length Unwritten x mem = refl
+written-length (Doubleword i v) x mem = simp length-set
+written-length Log x mem = commit-length mem _ _
 
 -- an index in memory has a line
 pub line-below : (i len : ℕ) → memory-sized len ≡ true → i < len → transaction.line i < lines
@@ -85,12 +64,15 @@ line-below i len z h = omega (arith, memory-most len z)
 abbrev Fine : ℕ → Did → Type 0
 Fine len d = thread-valid (d .thread) len ≡ true
 
+abbrev Does : ℕ → Effect → Type 0
+Does len f = thread-valid (f .thread) len ≡ true
+
 -- a failure of the thread's own, in T and in S
-fails-fine : (t : Thread) (len cause : ℕ) → Right T t len → Fine len (fails t cause)
+fails-fine : (t : Thread) (len : ℕ) (cause : Cause) → Right T t len → Fine len (fails t cause)
 unfolding fails
 fails-fine t len cause r = valid (failure-t t cause true _ len r)
 
-dooms-fine : (t : Thread) (len cause : ℕ) → Right S t len → Fine len (dooms t cause)
+dooms-fine : (t : Thread) (len : ℕ) (cause : Cause) → Right S t len → Fine len (dooms t cause)
 unfolding dooms
 dooms-fine t len cause r = valid (passed (failure-s t cause true _ len r))
 
@@ -113,18 +95,18 @@ module _ (t : Thread) (len : ℕ) where
   tbegin-fine N b r =
       valid
       (passed
-      (with-controls (saved (from-state r)) (begins t b) refl (record { nia = r .addresses .nia; tfhar = next-aligned _ (r .addresses .nia) })
+      (with-controls (saved (from-state r)) (begins (t .control) b) refl (record { nia = r .addresses .nia; tfhar = next-aligned _ (r .addresses .nia) })
       (r .rules .0, begun-live b (r .rules .1))))
   tbegin-fine T b r =
-      fork (Fine len) (leb most-levels (tl (t .control .texasr))) (λ p. fails-fine t len _ r)
+      fork (Fine len) (leb most-levels (tl (t .control .failure .texasr))) (λ p. fails-fine t len _ r)
       (λ p. leveled-fine _ r (up (r .rules .1) (leb-false _ _ p)))
   tbegin-fine S b r = cr0-only-fine r
 
-  tend-fine : (s : State) (a : Bool) (mem : List ℕ) → Right s t len → Fine len (tend s t a mem .did)
+  tend-fine : (s : State) (a : Bool) → Right s t len → Does len (tend s t a)
   unfolding tend transaction.discard
-  tend-fine N a mem r = cr0-only-fine r
-  tend-fine T a mem r =
-      fork (λ (d : Ran). Fine len (d .did)) (commits t a)
+  tend-fine N a r = cr0-only-fine r
+  tend-fine T a r =
+      fork (Does len) (commits t a)
       (λ p. valid
       (passed
       (record {
@@ -135,21 +117,21 @@ module _ (t : Thread) (len : ℕ) where
         holds = empty-holds len;
       })))
       (λ p. leveled-fine _ r (down (r .rules .1) (leb-false _ _ (neither a _ p .1))))
-  tend-fine S a mem r = cr0-only-fine r
+  tend-fine S a r = cr0-only-fine r
 
   -- tabort. and its conditional forms
-  tabort-fine : (s : State) (cause : ℕ) → Right s t len → Fine len (tabort s t cause)
+  tabort-fine : (s : State) (cause : Cause) → Right s t len → Fine len (tabort s t cause)
   unfolding tabort
   tabort-fine N cause r = cr0-only-fine r
   tabort-fine T cause r = fails-fine t len cause r
   tabort-fine S cause r = dooms-fine (cr0-from-state t) len cause (from-state r)
 
-  tabort-if-fine : (held : Bool) → Right (t .control .state) t len → Fine len (tabort-if t held)
+  tabort-if-fine : (held : Bool) → Right (t .control .msr .state) t len → Fine len (tabort-if t held)
   unfolding tabort-if
   tabort-if-fine held r = fork (Fine len) held (λ p. tabort-fine _ _ r) (λ p. cr0-only-fine r)
 
   -- tsr.
-  moves-fine : {s : State} (s' : State) → Right s t len → Rules s' (t .control .doomed) (t .control .texasr) (t .transaction) → Fine len (moves t s')
+  moves-fine : {s : State} (s' : State) → Right s t len → Rules s' (t .control .msr .doomed) (t .control .failure .texasr) (t .transaction) → Fine len (moves t s')
   moves-fine s' r g = valid (passed (with-controls (from-state r) _ refl (r .addresses) g))
 
   tsuspend-fine : (s : State) → Right s t len → Fine len (tsuspend s t)
@@ -163,13 +145,13 @@ module _ (t : Thread) (len : ℕ) where
   tresume-fine N r = cr0-only-fine r
   tresume-fine T r = cr0-only-fine r
   tresume-fine S r =
-      fork (Fine len) (t .control .doomed) (λ d. valid (handled t len (r .file) (r .addresses) (doomed-empty _ _ _ d (r .rules))))
+      fork (Fine len) (t .control .msr .doomed) (λ d. valid (handled t len (r .file) (r .addresses) (doomed-empty _ _ _ d (r .rules))))
       (λ d. moves-fine T r (d, undoomed-live _ _ _ d (r .rules)))
 
   tcheck-fine : {s : State} (bf : ℕ) → Right s t len → Fine len (tcheck t bf)
   unfolding tcheck
   tcheck-fine bf r =
-      valid (passed (with-cr r bf (check-field (t .control)) (let h = ts-small (t .control .state) in let d = bit-lt (t .control .doomed) in omega arith)))
+      valid (passed (with-cr r bf (check-field (t .control)) (let h = ts-small (t .control .msr .state) in let d = bit-lt (t .control .msr .doomed) in omega arith)))
 
   -- treclaim.: a recording changes neither registers nor addresses
   treclaim-fine : {s : State} (ra : ℕ) → Right s t len → Fine len (treclaim t ra)
@@ -179,14 +161,14 @@ module _ (t : Thread) (len : ℕ) where
       (passed
       (record {
         is = refl;
-        file = record { live = k .0 .saved; saved = k .0 .saved; cr0 = (let l = ts-small (t .control .state) in omega arith) };
+        file = record { live = k .0 .saved; saved = k .0 .saved; cr0 = (let l = ts-small (t .control .msr .state) in omega arith) };
         addresses = k .1;
         rules = (refl, refl);
         holds = empty-holds len;
       }))
     where
       Kept : Thread → Type 0
-      Kept u = Filed (u .live) (u .checkpoint) (u .cr0) × Addressed (u .control .nia) (u .control .tfhar)
+      Kept u = Filed (u .live) (u .checkpoint) (u .cr0) × Addressed (u .control .nia) (u .control .failure .tfhar)
 
       k : Kept (own-recording t (abort-cause t ra))
       k = fork Kept (failed (t .control)) (λ p. (r .file, r .addresses)) (λ p. (r .file, r .addresses))
@@ -207,16 +189,16 @@ module _ (t : Thread) (len : ℕ) where
   mtspr-fine N spr ra b r =
       valid
       (passed
-      (fork Ok (eqb spr 128) (λ p. put _ _ _ (omega arith))
-      (λ p. fork Ok (eqb spr 129) (λ p. put _ _ _ (r .addresses .tfhar))
-      (λ p. fork Ok (eqb spr 130) (λ p. put _ _ _ (r .addresses .tfhar))
-      (λ p. put _ _ _ (r .addresses .tfhar))))))
+      (fork Ok (eqb spr 128) (λ p. put _ (omega arith))
+      (λ p. fork Ok (eqb spr 129) (λ p. put _ (r .addresses .tfhar))
+      (λ p. fork Ok (eqb spr 130) (λ p. put _ (r .addresses .tfhar))
+      (λ p. put _ (r .addresses .tfhar))))))
     where
-      Ok : Control → Type 0
-      Ok k = Right N (with-control t k) len
+      Ok : Failure → Type 0
+      Ok f = Right N (with-control t (with-failure (t .control) f)) len
 
-      put : (a b c : ℕ) → a % 4 ≡ 0 → Right N (with-control t (special (t .control) a b c)) len
-      put a b c h = with-controls r _ (r .is) (record { nia = r .addresses .nia; tfhar = h }) (r .rules)
+      put : (f : Failure) → f .tfhar % 4 ≡ 0 → Ok f
+      put f h = with-controls r _ (r .is) (record { nia = r .addresses .nia; tfhar = h }) (r .rules)
   mtspr-fine T spr ra b r = absurd (true≢false b)
   mtspr-fine S spr ra b r = absurd (true≢false b)
 
@@ -230,31 +212,31 @@ module _ (t : Thread) (len : ℕ) where
         with-held _ r (join-footprint _ i (r .holds .shape) below c (r .rules .1 .small))
         (record { shape = join-shaped _ i (r .holds .shape); held = join-held _ i len (r .holds .shape) inside below (r .holds .held) })
 
-    ld-fine : (s : State) (rt : ℕ) (mem : List ℕ) → Right s t len → Fine len (ld s t rt i mem)
-    unfolding ld ld-overflows
+    ld-fine : (s : State) (rt : ℕ) (mem : List ℕ) → Right s t len → Does len (ld s t rt i mem)
+    unfolding ld
     ld-fine N rt mem r = gpr-fine rt _ r
     ld-fine T rt mem r =
-        fork (Fine len) (ld-overflows T t i) (λ p. fails-fine t len _ r)
+        fork (Does len) (ld-overflows t i) (λ p. fails-fine t len _ r)
         (λ p. fork (λ (u : Thread). Fine len (takes u rt i mem)) (tracked t)
         (λ q. valid (passed (with-gpr (joined r (simp q at p)) rt _)))
         (λ q. gpr-fine rt _ r))
     ld-fine S rt mem r = gpr-fine rt _ r
 
-    logs-fine : (v : ℕ) → Right T t len → Fine len (logs t v i)
-    unfolding logs std-overflows
+    logs-fine : (v : ℕ) → Right T t len → Does len (logs t v i)
+    unfolding logs
     logs-fine v r =
-        fork (Fine len) (std-overflows T t i) (λ p. fails-fine t len _ r)
+        fork (Does len) (std-overflows t i) (λ p. fails-fine t len _ r)
         (λ p. let q = neither _ _ p in
         valid
         (passed
         (with-held _ r (store-footprint _ i v (r .holds .shape) below (q .0) (r .rules .1 .small))
         (record { shape = store-shaped _ i v (r .holds .shape); held = store-held _ i v len (r .holds .shape) inside below (q .1) (r .holds .held) }))))
 
-    std-fine : (s : State) (v : ℕ) (mem : List ℕ) → Right s t len → Fine len (std s t v i mem .did)
+    std-fine : (s : State) (v : ℕ) → Right s t len → Does len (std s t v i)
     unfolding std meets-own
-    std-fine N v mem r = valid (passed r)
-    std-fine T v mem r = logs-fine v r
-    std-fine S v mem r = fork (Fine len) (transaction.touches (t .transaction) (transaction.line i)) (λ p. dooms-fine t len _ r) (λ p. valid (passed r))
+    std-fine N v r = valid (passed r)
+    std-fine T v r = logs-fine v r
+    std-fine S v r = fork (Fine len) (transaction.touches (t .transaction) (transaction.line i)) (λ p. dooms-fine t len _ r) (λ p. valid (passed r))
 
   disallowed-fine : (s : State) → Right s t len → Fine len (disallowed s t)
   unfolding disallowed
@@ -266,7 +248,7 @@ module _ (t : Thread) (len : ℕ) where
   unfolding interrupt
   interrupt-fine s r = valid (with-controls r _ (ap interrupted (r .is)) (r .addresses) (go s (r .rules)))
     where
-      go : (s : State) → Rules s (t .control .doomed) (t .control .texasr) (t .transaction) → Rules (interrupted s) (t .control .doomed) (t .control .texasr) (t .transaction)
+      go : (s : State) → Rules s (t .control .msr .doomed) (t .control .failure .texasr) (t .transaction) → Rules (interrupted s) (t .control .msr .doomed) (t .control .failure .texasr) (t .transaction)
       go N g = g
       go T g = inr g
       go S g = g
@@ -275,24 +257,24 @@ module _ (t : Thread) (len : ℕ) where
   unfolding host
   host-fine pr tm r = valid (with-controls r _ (r .is) (r .addresses) (r .rules))
 
-pub not-bad : (k : Control) (n : ℕ) → refused-there k n ≡ 0 → bad-thing (k .state) k n ≡ false
+pub not-bad : (k : Control) (n : ℕ) → refused-there k n ≡ 0 → bad-thing (k .msr .state) k n ≡ false
 unfolding refused-there
 not-bad k n p =
-    no-number (bad-thing (k .state) k n) 12 0
-    (no-number (forbidden k n) 11 _ (no-number (off k n) 10 _ (no-number (host-in-t (k .state) n) 4 _ p .1) .1) .1) .0
+    no-number (bad-thing (k .msr .state) k n) 12 0
+    (no-number (forbidden k n) 11 _ (no-number (off k n) 10 _ (no-number (host-in-t (k .msr .state) n) 4 _ p .1) .1) .1) .0
 
-pub own-keeps : (e : Event) (t : Thread) (mem : List ℕ) → memory-sized (length mem) ≡ true → thread-valid t (length mem) ≡ true
+pub effect-keeps : (e : Event) (t : Thread) (mem : List ℕ) → memory-sized (length mem) ≡ true → thread-valid t (length mem) ≡ true
     → operands-right e (length mem) ≡ true → refused-there (t .control) (kind e) ≡ 0
-    → thread-valid (own e t mem .did .thread) (length mem) ≡ true
-unfolding own operands-right kind tsr mfspr addi
-own-keeps e t mem z h o q = go e o q
+    → thread-valid (effect e t mem .thread) (length mem) ≡ true
+unfolding effect operands-right kind tsr mfspr addi
+effect-keeps e t mem z h o q = go e o q
   where
-    r : Right (t .control .state) t (length mem)
+    r : Right (t .control .msr .state) t (length mem)
     r = right _ t _ refl h
 
-    go : (e : Event) → operands-right e (length mem) ≡ true → refused-there (t .control) (kind e) ≡ 0 → Fine (length mem) (own e t mem .did)
+    go : (e : Event) → operands-right e (length mem) ≡ true → refused-there (t .control) (kind e) ≡ 0 → Does (length mem) (effect e t mem)
     go (Tbegin b) o q = tbegin-fine t _ _ b r
-    go (Tend a) o q = tend-fine t _ _ a mem r
+    go (Tend a) o q = tend-fine t _ _ a r
     go (Tabort ra) o q = tabort-fine t _ _ _ r
     go (Tabortwc to ra rb) o q = tabort-if-fine t _ _ r
     go (Tabortdc to ra rb) o q = tabort-if-fine t _ _ r
@@ -303,7 +285,7 @@ own-keeps e t mem z h o q = go e o q
     go (Mtspr spr ra) o q = mtspr-fine t _ _ spr ra (not-bad _ 10 q) r
     go (Mfspr rt spr) o q = gpr-fine t _ rt _ r
     go (Ld rt i) o q = let l = access-in rt i _ o .1 in ld-fine t _ i l (line-below i _ z l) _ rt mem r
-    go (Std ra i) o q = let l = access-in ra i _ o .1 in std-fine t _ i l (line-below i _ z l) _ _ mem r
+    go (Std ra i) o q = let l = access-in ra i _ o .1 in std-fine t _ i l (line-below i _ z l) _ _ r
     go (Addi rt ra si) o q = gpr-fine t _ rt _ r
     go Disallowed o q = disallowed-fine t _ _ r
     go Interrupt o q = interrupt-fine t _ _ r

@@ -1,0 +1,219 @@
+-- An event on the thread itself: two threads alike that execute nothing that tells stay alike or become equal.
+use mathlib.Core.Path.{_≡_, refl, sym, ap, _∙_, subst}
+use mathlib.Core.Bool.{Bool, true, false, cond, _||_, true≢false}
+use mathlib.Core.Logic.{_⊎_, inl, inr}
+use mathlib.Core.List.{List, [], _∷_}
+use Prim.Native.Nat.{ℕ, zero, suc}
+use native.Mathlib.Omega.{arith}
+use lib.Dec.{eqb, leb}
+use lib.ListN.{length, getD, set}
+use borrow.Author.Tests.{not-false}
+use Rattle.base.specs.Limits.{most-levels}
+use Rattle.lines.specs.declared.LineSet.{LineSet}
+use Rattle.transaction.specs.Transaction as transaction
+use Rattle.transaction.specs.Transaction.{entry}
+use Rattle.transaction.specs.declared.Cause.{Cause}
+use Rattle.transaction.specs.declared.Cause.the-variants.{Footprint}
+use Rattle.transaction.specs.declared.Entry.{Entry}
+use Rattle.transaction.specs.declared.Touch.{Touch}
+use Rattle.transaction.specs.declared.Write.the-variants.{Unwritten}
+use Rattle.transaction.specs.declared.Found.{Found}
+use Rattle.transaction.specs.declared.Found.the-variants.{At, Absent}
+use Rattle.transaction.proofs.Laws.{lookup-same}
+use Rattle.thread.specs.Texasr.{tl}
+use Rattle.thread.specs.Thread.{with-transaction, failed, recording, handling}
+use Rattle.thread.specs.declared.Registers.{Registers}
+use Rattle.thread.specs.declared.State.{State}
+use Rattle.thread.specs.declared.State.the-variants.{N, T, S}
+use Rattle.thread.specs.declared.Control.{Control}
+use Rattle.thread.specs.declared.Thread.{Thread}
+use Rattle.thread.specs.declared.Effect.{Effect}
+use Rattle.event.specs.Event.{kind}
+use Rattle.event.specs.declared.Event.{Event}
+use Rattle.event.specs.declared.Event.the-variants.{Tbegin, Tend, Tabort, Tabortwc, Tabortdc, Tsr, Tcheck, Treclaim, Trechkpt, Mtspr, Mfspr, Ld, Std, Addi, Disallowed, Interrupt, Host}
+use Rattle.power_common.specs.Common.{did, doing, quiet, passes, gpr, fails, abort-cause}
+use Rattle.power_access.specs.Access.{tracked, ld-overflows, takes, loads, ld, stores, logs, std}
+use Rattle.power_aborts.specs.Aborts.{tabort}
+use Rattle.power_begins.specs.Begins.{tbegin, commits, tend, tresume, tsr}
+use Rattle.power_reclaims.specs.Reclaims.{tcheck, treclaim}
+use Rattle.power_special.specs.Special.{mfspr}
+use Rattle.power_plain.specs.Plain.{addi, disallowed, host}
+use Rattle.power_effect.specs.Effects.{effect}
+use Rattle.power_common.specs.declared.Did.{Did}
+use Rattle.refusal.specs.Refusal.{bad-thing, refused-there}
+use Rattle.laws_keeping.proofs.Effects.{not-bad}
+use Rattle.laws_secrecy.specs.Secrecy.{AlikeThread, tells}
+
+-- equal, or alike
+abbrev pub Even : Thread → Thread → Type 0
+Even t u = (t ≡ u) ⊎ AlikeThread t u
+
+-- what an event does on two threads: one answer, one touch, nothing written, and threads that are equal or alike
+pub record EvenEffect (a b : Effect) : Type 0 where
+  pub answer : a .answer ≡ b .answer
+  pub touch : a .touch ≡ b .touch
+  pub unwritten : a .write ≡ Unwritten
+  pub unwritten' : b .write ≡ Unwritten
+  pub threads : Even (a .thread) (b .thread)
+
+-- what holds on both ways of one test
+pub both : {A : Type 0} (P : A → A → Type 0) (b : Bool) {x y x' y' : A} → (b ≡ true → P x x') → (b ≡ false → P y y') → P (cond b x y) (cond b x' y')
+both P true p q = p refl
+both P false p q = q refl
+
+-- what holds between the elements of two lists, and between two new ones, holds after both are stored
+pub set-both : {A : Type 0} (R : ℕ → A → A → Type 0) (d : A) (xs ys : List A) (i : ℕ) (a b : A) → length xs ≡ length ys
+    → ((k : ℕ) → R k (getD xs k d) (getD ys k d)) → R i a b → (k : ℕ) → R k (getD (set xs i a) k d) (getD (set ys i b) k d)
+set-both R d [] [] i a b l h r k = h k
+set-both R d [] (y ∷ ys) i a b l h r k = absurd (omega arith)
+set-both R d (x ∷ xs) [] i a b l h r k = absurd (omega arith)
+set-both R d (x ∷ xs) (y ∷ ys) zero a b l h r zero = r
+set-both R d (x ∷ xs) (y ∷ ys) zero a b l h r (suc k) = h (suc k)
+set-both R d (x ∷ xs) (y ∷ ys) (suc i) a b l h r zero = h zero
+set-both R d (x ∷ xs) (y ∷ ys) (suc i) a b l h r (suc k) = set-both (λ n. R (suc n)) d xs ys i a b (omega arith) (λ n. h (suc n)) r k
+
+-- the thread with other live registers, another CR0 and another log; a thread alike to it is such a one
+abbrev pub beside : Thread → Registers → ℕ → List Entry → Thread
+beside t r f es =
+    record {
+      live = r;
+      cr0 = f;
+      checkpoint = t .checkpoint;
+      control = t .control;
+      transaction = record { reads = t .transaction .reads; writes = t .transaction .writes; count = t .transaction .count; log = es };
+    }
+
+pub is-beside : {t u : Thread} → AlikeThread t u → beside t (u .live) (u .cr0) (u .transaction .log) ≡ u
+is-beside {t} {u} a =
+    λ j. record {
+      live = u .live;
+      cr0 = u .cr0;
+      checkpoint = a .checkpoint j;
+      control = a .control j;
+      transaction = record { reads = a .reads j; writes = a .writes j; count = a .count j; log = u .transaction .log };
+    }
+
+-- a first failure that is handled forgets what was not alike
+pub failure-same : (t : Thread) (r : Registers) (f : ℕ) (es : List Entry) → failed (t .control) ≡ false → (cause : Cause) (exact : Bool) (at : ℕ)
+    → handling (recording t cause exact at) ≡ handling (recording (beside t r f es) cause exact at)
+unfolding handling recording transaction.discard
+failure-same t r f es z cause exact at = simp z
+
+-- a Bad Thing is refused
+barred : (k : Control) (n : ℕ) → bad-thing (k .msr .state) k n ≡ true → refused-there k n ≡ 0 → ⊥
+barred k n b o = true≢false (sym b ∙ not-bad k n o)
+
+module _ (t : Thread) (r : Registers) (f : ℕ) (es : List Entry) (p : t .control .msr .state ≡ T) (z : failed (t .control) ≡ false)
+    (size : length (t .transaction .log) ≡ length es) (q : (n : ℕ) → entry (t .transaction .log) n .index ≡ entry es n .index) where
+  -- on to the next instruction, with whatever registers, CR0 and values
+  goes : {k : Control} {g h : Registers} {c d : ℕ} {reads writes : LineSet} {n : ℕ} {xs ys : List Entry} {touch : Touch}
+      → k .msr .state ≡ T → ((n : ℕ) → entry xs n .index ≡ entry ys n .index)
+      → EvenEffect
+      (doing (did 0 (record { live = g; cr0 = c; checkpoint = t .checkpoint; control = k; transaction = record { reads = reads; writes = writes; count = n; log = xs } })) touch Unwritten)
+      (doing (did 0 (record { live = h; cr0 = d; checkpoint = t .checkpoint; control = k; transaction = record { reads = reads; writes = writes; count = n; log = ys } })) touch Unwritten)
+  goes s i =
+      record {
+        answer = refl;
+        touch = refl;
+        unwritten = refl;
+        unwritten' = refl;
+        threads = inr (record { transactional = s; control = refl; checkpoint = refl; reads = refl; writes = refl; count = refl; addresses = i });
+      }
+
+  -- the thread's own failure
+  falls : (cause : Cause) → EvenEffect (quiet (fails t cause)) (quiet (fails (beside t r f es) cause))
+  unfolding fails
+  falls cause = record { answer = refl; touch = refl; unwritten = refl; unwritten' = refl; threads = inl (failure-same t r f es z cause true _) }
+
+  -- so of what touches nothing
+  abbrev Evenly : Did → Did → Type 0
+  Evenly a b = EvenEffect (quiet a) (quiet b)
+
+  tbegin-even : (b : Bool) → Evenly (tbegin T t b) (tbegin T (beside t r f es) b)
+  unfolding tbegin
+  tbegin-even b = both Evenly (leb most-levels (tl (t .control .failure .texasr))) (λ x. falls _) (λ x. goes p q)
+
+  tend-even : (a : Bool) → commits t a ≡ false → EvenEffect (tend T t a) (tend T (beside t r f es) a)
+  unfolding tend
+  tend-even a c = simp c (goes p q)
+
+  tcheck-even : (bf : ℕ) → Evenly (tcheck t bf) (tcheck (beside t r f es) bf)
+  unfolding tcheck
+  tcheck-even bf = both (λ (x y : Thread). Evenly (passes x) (passes y)) (eqb bf 0) (λ x. goes p q) (λ x. goes p q)
+
+  -- an abort or a reclaim with RA = 0
+  tabort-even : (ra : ℕ) → eqb ra 0 ≡ true → Evenly (tabort T t (abort-cause t ra)) (tabort T (beside t r f es) (abort-cause (beside t r f es) ra))
+  unfolding tabort
+  tabort-even ra a = simp a (falls _)
+
+  treclaim-even : (ra : ℕ) → eqb ra 0 ≡ true → Evenly (treclaim t ra) (treclaim (beside t r f es) ra)
+  unfolding treclaim recording transaction.discard
+  treclaim-even ra a = record { answer = refl; touch = refl; unwritten = refl; unwritten' = refl; threads = inl (simp (a, z)) }
+
+  tresume-even : Evenly (tresume T t) (tresume T (beside t r f es))
+  unfolding tresume
+  tresume-even = goes p q
+
+  -- a load, whatever it loads
+  ld-even : (rt i : ℕ) (mem : List ℕ) → EvenEffect (ld T t rt i mem) (ld T (beside t r f es) rt i mem)
+  unfolding ld transaction.crowded
+  ld-even rt i mem =
+      both EvenEffect (ld-overflows t i) (λ x. falls _)
+      (λ x. both (λ (x y : Thread). EvenEffect (loads (takes x rt i mem) i) (loads (takes y rt i mem) i)) (tracked t) (λ y. goes p q) (λ y. goes p q))
+
+  -- a store, whatever it stores: its place is found by the indices alone
+  std-even : (v v' i : ℕ) → EvenEffect (std T t v i) (std T (beside t r f es) v' i)
+  unfolding std logs transaction.crowded transaction.full transaction.store-at
+  std-even v v' i =
+      let g = transaction.lookup (t .transaction) i in
+      subst (λ (h : Found). EvenEffect (at t v g) (at (beside t r f es) v' h)) (lookup-same (t .transaction .log) es i _ (λ k l. q k)) (found g)
+    where
+      room : Thread → Found → Bool
+      room t g = transaction.crowded (t .transaction) (transaction.line i) || transaction.full (t .transaction) g
+
+      at : Thread → ℕ → Found → Effect
+      at t v g = cond (room t g) (quiet (fails t Footprint)) (stores (passes (with-transaction t (transaction.store-at (t .transaction) g i v))) i Unwritten)
+
+      stored : (n : ℕ) (a b : Entry) → a .index ≡ b .index → (k : ℕ) → entry (set (t .transaction .log) n a) k .index ≡ entry (set es n b) k .index
+      stored n a b e = set-both (λ k a b. a .index ≡ b .index) transaction.no-entry (t .transaction .log) es n a b size q e
+
+      found : (g : Found) → EvenEffect (at t v g) (at (beside t r f es) v' g)
+      found (At n) = both EvenEffect (room t (At n)) (λ x. falls _) (λ x. goes p (stored n _ _ refl))
+      found Absent = both EvenEffect (room t Absent) (λ x. falls _) (λ x. goes p (stored _ _ _ refl))
+
+  disallowed-even : Evenly (disallowed T t) (disallowed T (beside t r f es))
+  unfolding disallowed
+  disallowed-even = falls _
+
+  -- what is so in T is so in the thread's state
+  here : (P : State → Type 0) → P T → P (t .control .msr .state)
+  here P h = subst P (sym p) h
+
+  effect-even : (e : Event) (mem : List ℕ) → tells e t ≡ false → refused-there (t .control) (kind e) ≡ 0 → EvenEffect (effect e t mem) (effect e (beside t r f es) mem)
+  unfolding effect tells kind bad-thing tsr mfspr addi host
+  effect-even (Tbegin b) mem n o = here (λ s. Evenly (tbegin s t b) (tbegin s (beside t r f es) b)) (tbegin-even b)
+  effect-even (Tend a) mem n o = here (λ s. EvenEffect (tend s t a) (tend s (beside t r f es) a)) (tend-even a n)
+  effect-even (Tabort ra) mem n o =
+      here (λ s. Evenly (tabort s t (abort-cause t ra)) (tabort s (beside t r f es) (abort-cause (beside t r f es) ra))) (tabort-even ra (not-false _ n))
+  effect-even (Tabortwc to ra rb) mem n o = absurd (true≢false n)
+  effect-even (Tabortdc to ra rb) mem n o = absurd (true≢false n)
+  effect-even (Tsr l) mem n o = simp (not-false l n) (here (λ s. Evenly (tresume s t) (tresume s (beside t r f es))) tresume-even)
+  effect-even (Tcheck bf) mem n o = tcheck-even bf
+  effect-even (Treclaim ra) mem n o = treclaim-even ra (not-false _ n)
+  effect-even Trechkpt mem n o = absurd (barred (t .control) 9 (here (λ s. bad-thing s (t .control) 9 ≡ true) refl) o)
+  effect-even (Mtspr spr ra) mem n o = absurd (barred (t .control) 10 (here (λ s. bad-thing s (t .control) 10 ≡ true) refl) o)
+  effect-even (Mfspr rt spr) mem n o = goes p q
+  effect-even (Ld rt i) mem n o = here (λ s. EvenEffect (ld s t rt i mem) (ld s (beside t r f es) rt i mem)) (ld-even rt i mem)
+  effect-even (Std ra i) mem n o = here (λ s. EvenEffect (std s t (gpr t ra) i) (std s (beside t r f es) (gpr (beside t r f es) ra) i)) (std-even _ _ i)
+  effect-even (Addi rt ra si) mem n o = goes p q
+  effect-even Disallowed mem n o = here (λ s. Evenly (disallowed s t) (disallowed s (beside t r f es))) disallowed-even
+  effect-even Interrupt mem n o = absurd (true≢false n)
+  effect-even (Host pr tm) mem n o = goes p q
+
+-- two threads alike
+module _ {t u : Thread} (a : AlikeThread t u) where
+  pub effect-alike : (e : Event) (mem : List ℕ) → length (t .transaction .log) ≡ length (u .transaction .log) → failed (t .control) ≡ false
+      → tells e t ≡ false → refused-there (t .control) (kind e) ≡ 0 → EvenEffect (effect e t mem) (effect e u mem)
+  effect-alike e mem size z n o =
+      subst (λ (x : Thread). EvenEffect (effect e t mem) (effect e x mem)) (is-beside a)
+      (effect-even t (u .live) (u .cr0) (u .transaction .log) (a .transactional) z size (a .addresses) e mem n o)

@@ -1,0 +1,33 @@
+-- What each event that is not refused does: its answer and thread, what it touches and what it writes (document 01, "Events"). The meanings are in the crates power_*.
+use Prim.Native.Nat.{ℕ}
+use mathlib.Core.List.{List}
+use Rattle.thread.specs.declared.Thread.{Thread}
+use Rattle.thread.specs.declared.Effect.{Effect}
+use Rattle.event.specs.declared.Event.{Event}
+use Rattle.event.specs.declared.Event.the-variants.{Tbegin, Tend, Tabort, Tabortwc, Tabortdc, Tsr, Tcheck, Treclaim, Trechkpt, Mtspr, Mfspr, Ld, Std, Addi, Disallowed, Interrupt, Host}
+use Rattle.power_common.specs.Common.{quiet, gpr, abort-cause}
+use Rattle.power_begins.specs.Begins.{tbegin, tend, tsr}
+use Rattle.power_aborts.specs.Aborts.{tabort, tabortwc, tabortdc}
+use Rattle.power_reclaims.specs.Reclaims.{tcheck, treclaim, trechkpt}
+use Rattle.power_special.specs.Special.{mtspr, mfspr}
+use Rattle.power_access.specs.Access.{ld, std}
+use Rattle.power_plain.specs.Plain.{addi, disallowed, interrupt, host}
+
+unfoldable pub effect : Event → Thread → List ℕ → Effect
+effect (Tbegin r) t mem = quiet (tbegin (t .control .msr .state) t r)
+effect (Tend a) t mem = tend (t .control .msr .state) t a
+effect (Tabort ra) t mem = quiet (tabort (t .control .msr .state) t (abort-cause t ra))
+effect (Tabortwc to ra rb) t mem = quiet (tabortwc t to ra rb)
+effect (Tabortdc to ra rb) t mem = quiet (tabortdc t to ra rb)
+effect (Tsr l) t mem = quiet (tsr t l)
+effect (Tcheck bf) t mem = quiet (tcheck t bf)
+effect (Treclaim ra) t mem = quiet (treclaim t ra)
+effect Trechkpt t mem = quiet (trechkpt t)
+effect (Mtspr spr ra) t mem = quiet (mtspr t spr ra)
+effect (Mfspr rt spr) t mem = quiet (mfspr t rt spr)
+effect (Ld rt i) t mem = ld (t .control .msr .state) t rt i mem
+effect (Std ra i) t mem = std (t .control .msr .state) t (gpr t ra) i
+effect (Addi rt ra si) t mem = quiet (addi t rt ra si)
+effect Disallowed t mem = quiet (disallowed (t .control .msr .state) t)
+effect Interrupt t mem = quiet (interrupt t)
+effect (Host pr tm) t mem = quiet (host t pr tm)

@@ -1,0 +1,11 @@
+-- What the code's own contracts ask, beside the model.
+use Prim.Native.Nat.{_<_}
+use Rattle.base.specs.Limits.{lines}
+use Rattle.transaction.specs.declared.Touch.{Touch}
+use Rattle.transaction.specs.declared.Touch.the-variants.{Untouched, Load, Store}
+
+-- a line that is touched is one of the 256
+abbrev pub Lined : Touch → Type 0
+Lined Untouched = Unit {0}
+Lined (Load l) = l < lines
+Lined (Store l) = l < lines
