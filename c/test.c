@@ -183,8 +183,9 @@ static void conflict(void) {
 static void records(void) {
   uint8_t buffer[17];
   struct naszeptan_event e = store(0, 3, 17), wrong = e;
-  static const uint8_t paper[16] = {0xE3, 0x0D, 0, 0, 3, 0,
-                                    0,    0,    0, 0, 0, 0x11};
+  /* docs/RULES.md, T5. */
+  static const uint8_t example[16] = {0xE3, 0x0D, 0, 0, 3, 0,
+                                      0,    0,    0, 0, 0, 0x11};
   memset(buffer, 0xAA, sizeof buffer);
   CHECK(naszeptan_write(e, buffer, 15) == NASZEPTAN_SHORT_BUFFER &&
         buffer[0] == 0xAA);
@@ -195,7 +196,7 @@ static void records(void) {
   CHECK(naszeptan_write(wrong, buffer, 0) == NASZEPTAN_NO_KIND &&
         buffer[0] == 0xAA);
   CHECK(naszeptan_write(e, buffer, 17) == NASZEPTAN_DONE);
-  CHECK(memcmp(buffer, paper, 16) == 0 && buffer[16] == 0xAA);
+  CHECK(memcmp(buffer, example, 16) == 0 && buffer[16] == 0xAA);
   struct naszeptan_record r = naszeptan_read(buffer, 16);
   CHECK(r.answer == 0 && r.event.kind == 13 && r.event.ra == 3 &&
         r.event.index == 17);

@@ -192,7 +192,7 @@ struct naszeptan_machine naszeptan_fresh(void);
 
 /* Whether these bits are a machine over a memory of len doublewords: 0, or 1
  * (memory length or thread count), or 2 (not a valid machine). What is valid
- * says document 01, "The machine"; a machine that a call gave back is valid if
+ * is in docs/RULES.md, V1 to V14; a machine that a call gave back is valid if
  * the one handed in was. */
 uint8_t naszeptan_valid(struct naszeptan_machine machine, size_t len);
 

@@ -1,11 +1,13 @@
 //! Which answers can be met, by kind of event and by the state of its thread:
-//! read by hand from document 01 and from the header, not from a run.
+//! read by hand from docs/RULES.md and from the header, not from a run.
 //!
 //! A cell "can be met" from some valid machine, not only from those that
 //! events reach. A valid machine may have any PR and TM in any state, so 11
-//! and 12 do not depend on the state.
+//! and 12 do not depend on the state. Like 4, they follow from the kind's row
+//! in [`KINDS`], which the comparison so holds to both sides.
 
 use model::{Machine, State};
+use naszeptan::{Kind, KINDS};
 
 /// How many states there are to tell apart.
 pub const STATES: usize = 6;
@@ -66,19 +68,6 @@ impl Before {
 /// where they are not among them.
 type Cell = (&'static [u8], &'static str);
 
-/// One kind of event.
-struct Row {
-    name: &'static str,
-    /// Has an operand that may be out of range (4).
-    operands: bool,
-    /// Is a TM instruction (11).
-    tm: bool,
-    /// Is privileged (12).
-    privileged: bool,
-    /// In N, N with FS, T, S and S doomed.
-    done: [Cell; 5],
-}
-
 const MOVES: Cell = (&[0], "fails nothing and is never refused here");
 const OUTSIDE: Cell = (&[0], "outside a transaction nothing of its own fails");
 const BAD: Cell = (&[13], "a Bad Thing in this state, so never done");
@@ -93,159 +82,114 @@ const COMPARES: [Cell; 5] = [
     RECORDED,
 ];
 
-const fn row(name: &'static str, done: [Cell; 5]) -> Row {
-    Row {
-        name,
-        operands: false,
-        tm: false,
-        privileged: false,
-        done,
-    }
-}
-
-/// A TM instruction without operands that may be out of range.
-const fn tm(name: &'static str, done: [Cell; 5]) -> Row {
-    Row {
-        tm: true,
-        ..row(name, done)
-    }
-}
-
-/// The same row for an event with operands that may be out of range.
-const fn operands(row: Row) -> Row {
-    Row {
-        operands: true,
-        ..row
-    }
-}
-
-const fn privileged(row: Row) -> Row {
-    Row {
-        privileged: true,
-        ..row
-    }
-}
-
-/// By kind, 1 first.
-const ROWS: [Row; 17] = [
-    tm(
-        "tbegin.",
-        [
-            OUTSIDE,
-            OUTSIDE,
-            (&[0, 20], "TL 15 fails, and in T is handled at once"),
-            (&[0], "in S only CR0 changes"),
-            (&[0], "in S only CR0 changes"),
-        ],
-    ),
-    tm(
-        "tend.",
-        [OUTSIDE, OUTSIDE, (&[0], "a commit cannot fail"), BAD, BAD],
-    ),
-    operands(tm(
-        "tabort.",
-        [
-            OUTSIDE,
-            OUTSIDE,
-            (&[20], "in T it always fails, and is handled at once"),
-            (&[21], "FS is 0 in a live transaction: always recorded"),
-            RECORDED,
-        ],
-    )),
-    operands(tm("tabortwc.", COMPARES)),
-    operands(tm("tabortdc.", COMPARES)),
-    tm(
-        "tsr.",
-        [
-            OUTSIDE,
-            OUTSIDE,
-            (&[0], "suspending fails nothing"),
-            (&[0], "resuming a live transaction fails nothing"),
-            (&[0, 20], "tresume handles; it records nothing"),
-        ],
-    ),
-    operands(tm("tcheck", [MOVES; 5])),
-    privileged(operands(tm(
-        "treclaim.",
-        [
-            BAD,
-            BAD,
-            (&[0], "treclaim. answers 0, also where it records"),
-            (&[0], "treclaim. answers 0, also where it records"),
-            (&[0], "treclaim. answers 0"),
-        ],
-    ))),
-    privileged(tm(
-        "trechkpt.",
-        [
-            (&[13], "FS is 0"),
-            (&[0], "what it asks for is there"),
-            BAD,
-            BAD,
-            BAD,
-        ],
-    )),
-    operands(tm("mtspr", [OUTSIDE, OUTSIDE, BAD, BAD, BAD])),
-    operands(tm("mfspr", [MOVES; 5])),
-    operands(row(
-        "ld",
-        [
-            OUTSIDE,
-            OUTSIDE,
-            (&[0, 20], "in T an overflow is handled at once"),
-            (&[0], "a load in S adds no line and fails others only"),
-            (&[0], "a load in S adds no line and fails others only"),
-        ],
-    )),
-    operands(row(
-        "std",
-        [
-            OUTSIDE,
-            OUTSIDE,
-            (&[0, 20], "in T an overflow is handled at once"),
-            (&[0, 21], "in S handling waits for tresume"),
-            (&[0], "the sets are empty: no line is its own"),
-        ],
-    )),
-    operands(row("addi", [MOVES; 5])),
-    row(
-        "disallowed",
-        [
-            OUTSIDE,
-            OUTSIDE,
-            (&[20], "in T it always fails, and is handled at once"),
-            (&[0], "only T is failed by it"),
-            (&[0], "only T is failed by it"),
-        ],
-    ),
-    row("interrupt", [MOVES; 5]),
-    row("host", [MOVES, MOVES, (&[5], "refused in T"), MOVES, MOVES]),
+/// By kind, 1 first, what can be met in N, N with FS, T, S and S doomed.
+const CELLS: [[Cell; 5]; KINDS.len()] = [
+    // tbegin.
+    [
+        OUTSIDE,
+        OUTSIDE,
+        (&[0, 20], "TL 15 fails, and in T is handled at once"),
+        (&[0], "in S only CR0 changes"),
+        (&[0], "in S only CR0 changes"),
+    ],
+    // tend.
+    [OUTSIDE, OUTSIDE, (&[0], "a commit cannot fail"), BAD, BAD],
+    // tabort.
+    [
+        OUTSIDE,
+        OUTSIDE,
+        (&[20], "in T it always fails, and is handled at once"),
+        (&[21], "FS is 0 in a live transaction: always recorded"),
+        RECORDED,
+    ],
+    // tabortwc.
+    COMPARES,
+    // tabortdc.
+    COMPARES,
+    // tsr.
+    [
+        OUTSIDE,
+        OUTSIDE,
+        (&[0], "suspending fails nothing"),
+        (&[0], "resuming a live transaction fails nothing"),
+        (&[0, 20], "tresume handles; it records nothing"),
+    ],
+    // tcheck
+    [MOVES; 5],
+    // treclaim.
+    [
+        BAD,
+        BAD,
+        (&[0], "treclaim. answers 0, also where it records"),
+        (&[0], "treclaim. answers 0, also where it records"),
+        (&[0], "treclaim. answers 0"),
+    ],
+    // trechkpt.
+    [
+        (&[13], "FS is 0"),
+        (&[0], "what it asks for is there"),
+        BAD,
+        BAD,
+        BAD,
+    ],
+    // mtspr
+    [OUTSIDE, OUTSIDE, BAD, BAD, BAD],
+    // mfspr
+    [MOVES; 5],
+    // ld
+    [
+        OUTSIDE,
+        OUTSIDE,
+        (&[0, 20], "in T an overflow is handled at once"),
+        (&[0], "a load in S adds no line and fails others only"),
+        (&[0], "a load in S adds no line and fails others only"),
+    ],
+    // std
+    [
+        OUTSIDE,
+        OUTSIDE,
+        (&[0, 20], "in T an overflow is handled at once"),
+        (&[0, 21], "in S handling waits for tresume"),
+        (&[0], "the sets are empty: no line is its own"),
+    ],
+    // addi
+    [MOVES; 5],
+    // disallowed
+    [
+        OUTSIDE,
+        OUTSIDE,
+        (&[20], "in T it always fails, and is handled at once"),
+        (&[0], "only T is failed by it"),
+        (&[0], "only T is failed by it"),
+    ],
+    // interrupt
+    [MOVES; 5],
+    // host
+    [MOVES, MOVES, (&[5], "refused in T"), MOVES, MOVES],
 ];
 
 /// The name of a kind; 0 stands for all that are none.
 pub fn name(kind: u8) -> &'static str {
-    match kind {
-        1..=17 => ROWS[usize::from(kind) - 1].name,
-        _ => "no kind",
-    }
+    Kind::of(kind).map_or("no kind", |row| row.name)
 }
 
 /// Why this answer cannot be met there, or none if it can. Kind 0 stands for
 /// all that are none.
 pub fn why_not(kind: u8, before: Before, answer: u8) -> Option<&'static str> {
     let cannot = |can: bool, why| if can { None } else { Some(why) };
-    if kind == 0 || kind > 17 {
+    let Some(row) = Kind::of(kind) else {
         let can = before == Before::Nobody && matches!(answer, 1 | 2 | 8);
         return cannot(can, "what is no kind is refused by 1, 2 or 8");
-    }
-    let row = &ROWS[usize::from(kind) - 1];
+    };
     let Some(state) = (before as usize).checked_sub(1) else {
         let can = matches!(answer, 1 | 2 | 3 | 9);
         return cannot(can, "without a state only 1, 2, 3 or 9 is given");
     };
+    let (met, why) = CELLS[usize::from(kind) - 1][state];
+    let ranges = row.operands.iter().any(|operand| operand.has_range());
     match answer {
-        0 | 5 | 13 | 20 | 21 => cannot(row.done[state].0.contains(&answer), row.done[state].1),
-        4 => cannot(row.operands, "no operand of it can be out of range"),
+        0 | 5 | 13 | 20 | 21 => cannot(met.contains(&answer), why),
+        4 => cannot(ranges, "no operand of it can be out of range"),
         11 => cannot(row.tm, "no TM instruction"),
         12 => cannot(row.privileged, "not privileged"),
         1 | 2 | 3 | 8 | 9 => Some("refused before any state counts"),

@@ -2,6 +2,8 @@
 
 use std::fmt::Write;
 
+use naszeptan::{Kind, KINDS};
+
 use crate::cells::{self, Before, Call, CALLS, CALL_ROWS, NUMBERS, SHOWN, STATES};
 use crate::sights;
 
@@ -19,7 +21,7 @@ pub struct Counts {
 impl Default for Counts {
     fn default() -> Counts {
         Counts {
-            cells: vec![[[0; NUMBERS]; STATES]; 18],
+            cells: vec![[[0; NUMBERS]; STATES]; KINDS.len() + 1],
             sights: [0; sights::SIGHTS],
             calls: [[0; NUMBERS]; CALLS],
             records: 0,
@@ -35,7 +37,7 @@ fn place(answer: u8) -> usize {
 impl Counts {
     /// One event on which both sides agreed, and its sights.
     pub fn event(&mut self, kind: u8, before: Before, answer: u8, sights: u64) {
-        let kind = if kind > 17 { 0 } else { kind };
+        let kind = if Kind::of(kind).is_none() { 0 } else { kind };
         let before = match answer {
             1 | 2 | 3 | 8 | 9 => Before::Nobody,
             _ => before,

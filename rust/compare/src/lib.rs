@@ -6,7 +6,7 @@
 //! - [`pair`]: a machine on both sides, and where the two differ.
 //! - [`start`]: the machines that a sequence starts from.
 //! - [`plan`]: which event comes next.
-//! - [`cells`]: which answers can be met where, by hand from document 01.
+//! - [`cells`]: which answers can be met where, by hand from docs/RULES.md.
 //! - [`sights`]: situations that must be met beside those.
 //! - [`counts`]: how often each was met, and what was not.
 //! - [`batch`]: a numbered piece of the comparison, and a worker's share.

@@ -176,7 +176,7 @@ impl View<'_> {
         used.iter().any(|e| e.index == self.index())
     }
 
-    /// "Loads, stores and conflicts" (a), for the footprint.
+    /// Rule A1, for the footprint.
     fn overflows_lines(&self) -> bool {
         let load = matches!(self.event, Event::Ld { .. });
         self.state(State::T)
@@ -185,7 +185,7 @@ impl View<'_> {
             && self.thread.footprint() == MAX_FOOTPRINT
     }
 
-    /// "Loads, stores and conflicts" (a), for the log.
+    /// Rule A1, for the log.
     fn overflows_log(&self) -> bool {
         self.state(State::T) && self.thread.count == LOG && !self.logged()
     }

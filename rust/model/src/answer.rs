@@ -1,4 +1,4 @@
-//! "Numbers given back".
+//! Rule N1: the numbers given back.
 
 /// Done.
 pub const DONE: u8 = 0;

@@ -1,4 +1,4 @@
-//! "Events": a case for each kind.
+//! Rules E1 to E17: a case for each kind.
 
 /// One event. Operands take any value of their width; what is out of range is
 /// refused when the event is done.
@@ -24,7 +24,7 @@ pub enum Event {
 }
 
 impl Event {
-    /// The number of the event in "Events", 1 to 17.
+    /// The number of the event in rules E1 to E17.
     #[inline]
     pub fn kind(&self) -> u8 {
         match self {

@@ -1,7 +1,7 @@
-//! The machine of document 01 in ordinary Rust: state changed in place, no
+//! The machine of docs/RULES.md in ordinary Rust: state changed in place, no
 //! allocation on the way of an event, no dependencies.
 //!
-//! Comments name the section of document 01 that a piece of code follows.
+//! Comments name the rules of docs/RULES.md that a piece of code follows.
 //!
 //! - [`machine`]: the state and what makes it valid.
 //! - [`event`]: the seventeen events.

@@ -1,4 +1,4 @@
-//! "The machine": the state, and what makes it valid.
+//! Rules M1 to M14, the state, and V1 to V14, what makes it valid.
 
 /// Doublewords in a line.
 pub const LINE: usize = 16;
@@ -268,7 +268,7 @@ impl Machine {
     }
 
     /// Whether the thread count and the memory length are ones that a machine
-    /// may have (the number 1 of "Numbers given back").
+    /// may have (the number 1 of rule N1).
     #[inline]
     pub fn shape_fits(&self, len: usize) -> bool {
         (1..=THREADS).contains(&self.count)

@@ -1,4 +1,4 @@
-//! "The tape": the run and the program.
+//! Rules R1 to R4, the run, and P1 to P6, the program.
 
 use std::fmt::Write;
 

@@ -1,4 +1,4 @@
-//! "The tape": reading and writing one record.
+//! Rules T1 to T8: reading and writing one record.
 
 use crate::{answer, Event};
 

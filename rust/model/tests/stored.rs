@@ -1,5 +1,5 @@
 //! The stored expectations of the proved programs, held to this model: every line of the vectors and the text of every tape.
-//! Two readings of document 01 made apart so agree on them.
+//! Two readings of docs/RULES.md made apart so agree on them.
 
 use model::{program, read, step, Machine, Registers, State, Thread};
 use std::fmt::Write;

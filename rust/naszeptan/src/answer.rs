@@ -3,8 +3,7 @@
 use std::error::Error;
 use std::fmt;
 
-/// What a call gave back: one case for each number of document 01, "Numbers
-/// given back".
+/// What a call gave back: one case for each number of docs/RULES.md, N1.
 ///
 /// The cases 0, 20 and 21 say that the event was done, all others that it was
 /// refused and has changed nothing. In a run, the records before it stay done.
@@ -85,7 +84,7 @@ impl Answer {
         Answer::Recorded,
     ];
 
-    /// The number of document 01.
+    /// The number of rule N1.
     pub const fn number(self) -> u8 {
         self as u8
     }

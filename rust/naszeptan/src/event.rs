@@ -2,9 +2,9 @@
 
 use std::fmt;
 
-use crate::{raw, Answer};
+use crate::{raw, Answer, Kind};
 
-/// One event with its operands and nothing else (document 01, "Events"). The
+/// One event with its operands and nothing else (docs/RULES.md, E0.1). The
 /// thread is named beside it.
 ///
 /// Operands take any value of their width: the step refuses what is out of
@@ -128,81 +128,62 @@ pub enum Event {
 }
 
 impl Event {
-    /// The number of the event's kind, 1 to 17.
+    /// The number of the event's kind, 1 to 17. [`Kind::of`] gives its row.
     pub const fn kind(self) -> u8 {
-        match self {
-            Event::Tbegin { .. } => 1,
-            Event::Tend { .. } => 2,
-            Event::Tabort { .. } => 3,
-            Event::Tabortwc { .. } => 4,
-            Event::Tabortdc { .. } => 5,
-            Event::Tsr { .. } => 6,
-            Event::Tcheck { .. } => 7,
-            Event::Treclaim { .. } => 8,
-            Event::Trechkpt => 9,
-            Event::Mtspr { .. } => 10,
-            Event::Mfspr { .. } => 11,
-            Event::Ld { .. } => 12,
-            Event::Std { .. } => 13,
-            Event::Addi { .. } => 14,
-            Event::Disallowed => 15,
-            Event::Interrupt => 16,
-            Event::Host { .. } => 17,
-        }
+        self.to_raw(0).kind
     }
 
     /// The event as the C header has it, for a thread.
-    pub fn to_raw(self, thread: u8) -> raw::Event {
-        let mut to = raw::Event {
-            kind: self.kind(),
-            thread,
-            ..raw::Event::default()
+    pub const fn to_raw(self, thread: u8) -> raw::Event {
+        let (kind, x, ra, rb, flags, index, si) = match self {
+            Event::Tbegin { r } => (1, 0, 0, 0, r as u8, 0, 0),
+            Event::Tend { a } => (2, 0, 0, 0, a as u8, 0, 0),
+            Event::Tabort { ra } => (3, 0, ra, 0, 0, 0, 0),
+            Event::Tabortwc { to, ra, rb } => (4, to, ra, rb, 0, 0, 0),
+            Event::Tabortdc { to, ra, rb } => (5, to, ra, rb, 0, 0, 0),
+            Event::Tsr { l } => (6, 0, 0, 0, l as u8, 0, 0),
+            Event::Tcheck { bf } => (7, bf, 0, 0, 0, 0, 0),
+            Event::Treclaim { ra } => (8, 0, ra, 0, 0, 0, 0),
+            Event::Trechkpt => (9, 0, 0, 0, 0, 0, 0),
+            Event::Mtspr { spr, ra } => (10, spr, ra, 0, 0, 0, 0),
+            Event::Mfspr { rt, spr } => (11, spr, rt, 0, 0, 0, 0),
+            Event::Ld { rt, index } => (12, rt, 0, 0, 0, index, 0),
+            Event::Std { ra, index } => (13, 0, ra, 0, 0, index, 0),
+            Event::Addi { rt, ra, si } => (14, rt, ra, 0, 0, 0, si),
+            Event::Disallowed => (15, 0, 0, 0, 0, 0, 0),
+            Event::Interrupt => (16, 0, 0, 0, 0, 0, 0),
+            Event::Host { pr, tm } => (17, 0, 0, 0, pr as u8 + 2 * tm as u8, 0, 0),
         };
-        match self {
-            Event::Tbegin { r: flag } | Event::Tend { a: flag } | Event::Tsr { l: flag } => {
-                to.flags = u8::from(flag);
-            }
-            Event::Tabort { ra } | Event::Treclaim { ra } => to.ra = ra,
-            Event::Tabortwc { to: x, ra, rb } | Event::Tabortdc { to: x, ra, rb } => {
-                (to.x, to.ra, to.rb) = (x, ra, rb);
-            }
-            Event::Tcheck { bf } => to.x = bf,
-            Event::Mtspr { spr, ra } => (to.x, to.ra) = (spr, ra),
-            Event::Mfspr { rt, spr } => (to.x, to.ra) = (spr, rt),
-            Event::Ld { rt, index } => (to.x, to.index) = (rt, index),
-            Event::Std { ra, index } => (to.ra, to.index) = (ra, index),
-            Event::Addi { rt, ra, si } => (to.x, to.ra, to.si) = (rt, ra, si),
-            Event::Host { pr, tm } => to.flags = u8::from(pr) + 2 * u8::from(tm),
-            Event::Trechkpt | Event::Disallowed | Event::Interrupt => {}
-        }
-        to
-    }
-
-    /// The thread and the event that these fields mean; [`Answer::NoKind`] or
-    /// [`Answer::Field`] where they mean none.
-    pub fn from_raw(from: raw::Event) -> Result<(u8, Event), Answer> {
-        let event = Event::used_fields(from).ok_or(Answer::NoKind)?;
-        if event.to_raw(from.thread) == from {
-            Ok((from.thread, event))
-        } else {
-            Err(Answer::Field)
-        }
-    }
-
-    /// The event of this kind, whatever stands in the fields it does not use.
-    fn used_fields(from: raw::Event) -> Option<Event> {
-        let raw::Event {
+        raw::Event {
             kind,
+            thread,
             x,
             ra,
             rb,
             flags,
             index,
             si,
-            ..
+        }
+    }
+
+    /// The thread and the event that these fields mean; [`Answer::NoKind`] or
+    /// [`Answer::Field`] where they mean none.
+    pub fn from_raw(from: raw::Event) -> Result<(u8, Event), Answer> {
+        if !Kind::of(from.kind).ok_or(Answer::NoKind)?.fits(from) {
+            return Err(Answer::Field);
+        }
+        let raw::Event {
+            kind,
+            thread,
+            x,
+            ra,
+            rb,
+            flags,
+            index,
+            si,
         } = from;
         let flag = flags & 1 != 0;
-        Some(match kind {
+        let event = match kind {
             1 => Event::Tbegin { r: flag },
             2 => Event::Tend { a: flag },
             3 => Event::Tabort { ra },
@@ -223,43 +204,17 @@ impl Event {
                 pr: flag,
                 tm: flags & 2 != 0,
             },
-            _ => return None,
-        })
-    }
-}
-
-/// A register where number 0 means the value 0.
-struct OrZero(u8);
-
-impl fmt::Display for OrZero {
-    fn fmt(&self, f: &mut fmt::Formatter<'_>) -> fmt::Result {
-        match self.0 {
-            0 => f.write_str("0"),
-            n => write!(f, "r{n}"),
-        }
+            _ => return Err(Answer::NoKind),
+        };
+        Ok((thread, event))
     }
 }
 
 impl fmt::Display for Event {
     fn fmt(&self, f: &mut fmt::Formatter<'_>) -> fmt::Result {
-        match *self {
-            Event::Tbegin { r } => write!(f, "tbegin. R={}", u8::from(r)),
-            Event::Tend { a } => write!(f, "tend. A={}", u8::from(a)),
-            Event::Tabort { ra } => write!(f, "tabort. {}", OrZero(ra)),
-            Event::Tabortwc { to, ra, rb } => write!(f, "tabortwc. {to}, r{ra}, r{rb}"),
-            Event::Tabortdc { to, ra, rb } => write!(f, "tabortdc. {to}, r{ra}, r{rb}"),
-            Event::Tsr { l } => write!(f, "tsr. L={}", u8::from(l)),
-            Event::Tcheck { bf } => write!(f, "tcheck cr{bf}"),
-            Event::Treclaim { ra } => write!(f, "treclaim. {}", OrZero(ra)),
-            Event::Trechkpt => f.write_str("trechkpt."),
-            Event::Mtspr { spr, ra } => write!(f, "mtspr {spr}, r{ra}"),
-            Event::Mfspr { rt, spr } => write!(f, "mfspr r{rt}, {spr}"),
-            Event::Ld { rt, index } => write!(f, "ld r{rt}, {index}"),
-            Event::Std { ra, index } => write!(f, "std r{ra}, {index}"),
-            Event::Addi { rt, ra, si } => write!(f, "addi r{rt}, {}, {}", OrZero(ra), si as i16),
-            Event::Disallowed => f.write_str("disallowed"),
-            Event::Interrupt => f.write_str("interrupt"),
-            Event::Host { pr, tm } => write!(f, "host PR={}, TM={}", u8::from(pr), u8::from(tm)),
-        }
+        let fields = self.to_raw(0);
+        Kind::of(fields.kind)
+            .expect("each kind has a row")
+            .show(fields, f)
     }
 }

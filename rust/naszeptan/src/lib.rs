@@ -3,9 +3,9 @@
 //!
 //! A [`Machine`] of one to four threads and a lent memory take [`Event`]s, one
 //! at a time or from a [`Tape`]. After each, registers, log, memory and
-//! [`Texasr`] are those that the project's document 01, "Build definition and
-//! exact rules", gives, bit for bit. An event that is not allowed is refused
-//! with an [`Answer`] and changes nothing.
+//! [`Texasr`] are those that the project's rules, docs/RULES.md, give, bit for
+//! bit. An event that is not allowed is refused with an [`Answer`] and changes
+//! nothing.
 //!
 //! The work is done by the proved archive. This crate gives it types; it adds
 //! no rules. The archive is x86-64 code. It keeps no state, so several threads
@@ -64,6 +64,8 @@
 //!   [`LineSet`], [`Entry`]: the state. Every field may be read and set.
 //! - [`Machine::step`] and [`Machine::run`], also as the functions [`step`]
 //!   and [`run`].
+//! - [`KINDS`], [`Kind`], [`Operand`]: what all events of one kind have in
+//!   common, one row for each kind.
 //! - [`Texasr`], [`Failure`], [`Cause`]: what a failure left behind.
 //! - [`raw`]: the C header, for bits that the types do not allow.
 
@@ -73,6 +75,7 @@ pub mod raw;
 
 mod answer;
 mod event;
+mod kind;
 mod machine;
 #[allow(unsafe_code)]
 mod sys;
@@ -82,6 +85,7 @@ mod transaction;
 
 pub use answer::{Answer, NoAnswer};
 pub use event::Event;
+pub use kind::{Kind, Operand, KINDS};
 pub use machine::{Control, Ended, Machine, State, Thread};
 #[doc(inline)]
 pub use raw::{version, Entry, Lines as LineSet, Registers, Transaction};

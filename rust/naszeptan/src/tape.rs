@@ -6,8 +6,8 @@ use std::slice::Chunks;
 use crate::raw::{self, RECORD_SIZE};
 use crate::{Answer, Event};
 
-/// A tape: records of 16 bytes, one after the other (document 01, "The
-/// tape").
+/// A tape: records of 16 bytes, one after the other (docs/RULES.md, T1 and
+/// T2).
 ///
 /// It is made event by event, or of any bytes. Bytes that are no records stay
 /// as they are; [`records`](Tape::records) and a run say why they are none.

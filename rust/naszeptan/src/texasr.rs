@@ -3,7 +3,7 @@
 use std::fmt;
 
 /// A TEXASR value: the model's, or one read on hardware to compare with it
-/// (document 01, "TEXASR").
+/// (docs/RULES.md, X1 to X5).
 ///
 /// The register may hold any bits, since mtspr writes it whole. So nothing
 /// here can fail: a pattern that no recording leaves is told as it is.
@@ -27,7 +27,7 @@ use std::fmt;
 #[derive(Clone, Copy, Default, PartialEq, Eq, PartialOrd, Ord, Hash)]
 #[repr(transparent)]
 pub struct Texasr(
-    /// The 64 bits. Bit 0 of document 01 is the highest.
+    /// The 64 bits. Bit 0 of rule X1 is the highest.
     pub u64,
 );
 
@@ -52,7 +52,7 @@ pub enum Cause {
     /// [`Failure::code`].
     Abort,
     /// Bits 8 to 31, the lowest being bit 31, where they are not just one of
-    /// the bits above: none, several, or one that document 01 does not name.
+    /// the bits above: none, several, or one that rule X2 does not name.
     Other(u32),
 }
 
@@ -101,7 +101,7 @@ pub struct Failure {
 const FS: u64 = 1 << (63 - 36);
 /// ROT and TL: all that TEXASR holds while a transaction has not failed.
 const ROT_AND_LEVEL: u64 = 1 << (63 - 38) | 0xFFF;
-/// The bits that document 01 names: 0:14, 31, 32, 34:38, 52:63.
+/// The bits that rule X2 names: 0:14, 31, 32, 34:38, 52:63.
 const NAMED: u64 = 0xFFFE_0001_BE00_0FFF;
 
 impl Texasr {
@@ -175,7 +175,7 @@ impl Texasr {
         (self.0 & 0xFFF) as u16
     }
 
-    /// The bits set that document 01 does not name.
+    /// The bits set that rule X2 does not name.
     pub const fn unnamed(self) -> u64 {
         self.0 & !NAMED
     }

@@ -1,4 +1,4 @@
-//! K1 to K10 of document 01, "Bench values", through the archive.
+//! The bench values of docs/RULES.md, K1 to K10, through the archive.
 
 use naszeptan::{Answer, Event, Machine, State, LINE, MEMORY};
 

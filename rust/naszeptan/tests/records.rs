@@ -75,7 +75,7 @@ fn no_two_events_look_alike() {
 }
 
 #[test]
-fn the_record_of_document_01() {
+fn the_record_of_rule_t5() {
     let mut tape = Tape::new();
     tape.push(0, Event::Std { ra: 3, index: 17 });
     let record = [0xE3, 0x0D, 0, 0, 3, 0, 0, 0, 0, 0, 0, 0x11, 0, 0, 0, 0];

@@ -5,7 +5,7 @@ use std::path::{Path, PathBuf};
 
 use naszeptan::{Answer, Ended, Machine, Tape, MEMORY};
 
-/// The program's limit (document 01, "The tape"). A run has none.
+/// The program's limit (docs/RULES.md, P2). A run has none.
 const LONGEST: usize = 65_536;
 
 fn folder() -> PathBuf {

@@ -3,7 +3,7 @@
 
 use naszeptan::{Cause, Texasr};
 
-/// The bit that document 01 numbers `n`.
+/// The bit that rule X1 of docs/RULES.md numbers `n`.
 const fn bit(n: u32) -> u64 {
     1 << (63 - n)
 }

@@ -1,4 +1,4 @@
-//! "Loads, stores and conflicts": events 12 and 13.
+//! Rules A0 to A5: events 12 and 13.
 
 use super::failures::cause;
 use crate::answer;
@@ -31,7 +31,7 @@ impl Thread {
         !self.has_line(line) && self.footprint() >= MAX_FOOTPRINT
     }
 
-    /// (d) for a store in T: to its place in the log, or to a new one.
+    /// A4 for a store in T: to its place in the log, or to a new one.
     #[inline]
     fn log_store(&mut self, place: Option<usize>, line: usize, index: u32, value: u64) {
         match place {
@@ -47,7 +47,7 @@ impl Thread {
     }
 }
 
-/// (c): the accessor wins.
+/// A3: the accessor wins.
 #[inline(always)]
 fn fail_others(threads: &mut [Thread; THREADS], me: usize, line: usize, store: bool) {
     let cause = match threads[me].state {
@@ -62,7 +62,7 @@ fn fail_others(threads: &mut [Thread; THREADS], me: usize, line: usize, store: b
     }
 }
 
-/// Event 12, by (a), (c), (d).
+/// Event 12, by A1, A3, A4.
 #[inline]
 pub(super) fn load(m: &mut Machine, mem: &[u64], me: usize, rt: u8, index: u32) -> u8 {
     let line = index as usize / LINE;
@@ -84,7 +84,7 @@ pub(super) fn load(m: &mut Machine, mem: &[u64], me: usize, rt: u8, index: u32) 
     t.next()
 }
 
-/// Event 13, by (a) to (d).
+/// Event 13, by A1 to A4.
 #[inline]
 pub(super) fn store(m: &mut Machine, mem: &mut [u64], me: usize, ra: u8, index: u32) -> u8 {
     let line = index as usize / LINE;

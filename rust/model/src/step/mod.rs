@@ -1,5 +1,5 @@
-//! Doing one event: "Events", "Loads, stores and conflicts", and the tests of
-//! "Numbers given back" that belong to an event.
+//! Doing one event: rules E1 to E17 and A0 to A5, and the tests of an event,
+//! rule N2.
 //!
 //! The tests of an event stand in `attempt`; the function that does it is in
 //! the file of its group.

@@ -1,4 +1,4 @@
-//! The tests of "Numbers given back" that an event can fail. Those of a thread
+//! The tests of rule N2 that an event can fail. Those of a thread
 //! give the thread where they hold, so that one can follow another.
 
 use crate::answer;

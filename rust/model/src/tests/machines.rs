@@ -1,4 +1,4 @@
-//! "The machine": what is valid and what is not.
+//! Rules V1 to V14: what is valid and what is not.
 
 use std::collections::{BTreeMap, BTreeSet};
 

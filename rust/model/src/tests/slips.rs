@@ -1,4 +1,4 @@
-//! "Slips to keep out".
+//! Rules S1 to S5: slips to keep out.
 
 use super::*;
 

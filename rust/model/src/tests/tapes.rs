@@ -1,4 +1,4 @@
-//! "The tape": records, the run and the program.
+//! Rules T1 to T8, R1 to R4 and P1 to P6: records, the run and the program.
 
 use super::*;
 use crate::gen::{self, Rng};

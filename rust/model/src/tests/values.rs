@@ -1,4 +1,4 @@
-//! "Bench values": K1 to K10.
+//! Rules K1 to K10: the bench values.
 
 use super::*;
 

@@ -1,4 +1,4 @@
-//! "Loads, stores and conflicts" (a), (b) and (d): one thread's accesses.
+//! Rules A1, A2 and A4: one thread's accesses.
 
 use super::*;
 

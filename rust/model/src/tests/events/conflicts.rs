@@ -1,4 +1,4 @@
-//! "Loads, stores and conflicts" (c): who fails whom.
+//! Rule A3: who fails whom.
 
 use super::*;
 

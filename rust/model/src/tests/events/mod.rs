@@ -1,4 +1,4 @@
-//! "Events", "Loads, stores and conflicts": each rule once, by hand.
+//! Rules E1 to E17 and A0 to A5: each rule once, by hand.
 
 mod aborts;
 mod access;

@@ -1,4 +1,4 @@
-//! The sentences of "Loads, stores and conflicts", on threads in plain values.
+//! The sentences of rules A0 to A5, on threads in plain values.
 
 use super::plain::Plain;
 use super::rules::own_failure;
@@ -12,17 +12,17 @@ pub fn access(threads: &mut [Plain], mem: &mut [u64], me: usize, e: Event, cia: 
     };
     let line = index / 16;
     let mut number = 0;
-    // (a)
+    // A1
     if overflows(&threads[me], store, index) {
         return own_failure(&mut threads[me], 0x0020_0000, cia);
     }
-    // (b)
+    // A2
     if threads[me].state == State::S && store && threads[me].lines().contains(&line) {
         number = own_failure(&mut threads[me], 0x0010_0000, cia);
     }
-    // (c)
+    // A3
     fail_others(threads, me, store, line);
-    // (d)
+    // A4
     if store {
         store_doubleword(&mut threads[me], mem, r, index);
     } else {
@@ -31,7 +31,7 @@ pub fn access(threads: &mut [Plain], mem: &mut [u64], me: usize, e: Event, cia: 
     number
 }
 
-/// (a): the access needs a line or a place in the log that is not there.
+/// A1: the access needs a line or a place in the log that is not there.
 fn overflows(t: &Plain, store: bool, index: u32) -> bool {
     if t.state != State::T {
         return false;
@@ -42,7 +42,7 @@ fn overflows(t: &Plain, store: bool, index: u32) -> bool {
     new_line && t.lines().len() == 32 || new_place && t.log.len() == 64
 }
 
-/// (c): the other threads whose transactions the access fails.
+/// A3: the other threads whose transactions the access fails.
 fn fail_others(threads: &mut [Plain], me: usize, store: bool, line: u32) {
     let in_t = threads[me].state == State::T;
     for (n, t) in threads.iter_mut().enumerate() {
@@ -59,7 +59,7 @@ fn fail_others(threads: &mut [Plain], me: usize, store: bool, line: u32) {
     }
 }
 
-/// (d) for a store.
+/// A4 for a store.
 fn store_doubleword(t: &mut Plain, mem: &mut [u64], ra: u8, index: u32) {
     let value = t.live.gpr[ra as usize];
     if t.state != State::T {
@@ -73,7 +73,7 @@ fn store_doubleword(t: &mut Plain, mem: &mut [u64], ra: u8, index: u32) {
     t.writes.insert(index / 16);
 }
 
-/// (d) for a load.
+/// A4 for a load.
 fn load_doubleword(t: &mut Plain, mem: &[u64], rt: u8, index: u32) {
     t.live.gpr[rt as usize] = match t.logged(index) {
         Some(i) => t.log[i].1,

@@ -1,4 +1,4 @@
-//! The sentences of "Events", on threads in plain values.
+//! The sentences of rules E1 to E17, on threads in plain values.
 
 use std::cmp::Ordering::{self, Equal, Greater, Less};
 

@@ -1,4 +1,4 @@
-//! "Numbers given back": each refusal, when it is given and when not, and the
+//! Rules N1 to N3: each refusal, when it is given and when not, and the
 //! order of the tests.
 
 mod events;
