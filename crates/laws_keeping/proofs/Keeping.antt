@@ -28,7 +28,7 @@ use Rattle.laws_keeping.proofs.Own.{own-length, own-keeps}
 use Rattle.laws_keeping.proofs.Sets.{Stores, Loads, writes-touch, own-writes, own-touches}
 use Rattle.laws_keeping.proofs.Others.{Strikes, strikes, strikes-length, Fits, Met, strikes-met}
 use Rattle.laws_keeping.proofs.Parts.{thread-of, Clear, Right, valid-right, right-valid}
-use Rattle.laws_keeping.specs.Keeping.{Keeps, RefusedUntouched, OneAnswer}
+use Rattle.laws_keeping.specs.Keeping.{Keeps, RefusedUntouched}
 
 -- ---- the machine after it: the others as the event leaves them, its own thread made y
 
@@ -126,6 +126,3 @@ keeps m mem w e v = fork (Kept mem) (eqb (refusal m (length mem) w e) 0) (λ p. 
 pub refused-untouched : RefusedUntouched
 unfolding step
 refused-untouched m mem w e r = rw (ne-eqb (refusal m (length mem) w e) 0 r)
-
-pub one-answer : OneAnswer
-one-answer m mem w e a b x y p q r s = (p ∙ sym r, q ∙ sym s)

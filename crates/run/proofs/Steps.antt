@@ -3,7 +3,6 @@ use mathlib.Core.Path.{_≡_, refl, sym, ap, _∙_, subst}
 use mathlib.Core.Bool.{Bool, true, false, true≢false}
 use mathlib.Core.List.{List, [], _∷_, _++_}
 use Prim.Native.Nat.{ℕ, zero, suc, _+_, _-_, _/_}
-use native.Mathlib.Decide.{ℕ-discrete}
 use native.Mathlib.Omega.{arith}
 use borrow.Author.Tests.{eq-eqb, ne-eqb, eqb-true, not-true, not-false}
 use lib.Dec.{eqb}
@@ -29,14 +28,15 @@ passed-goes : (m : Machine) (mem : List ℕ) (w : ℕ) (e : Event) → goes-on (
 unfolding perform
 passed-goes m mem w e = own-done e (thread (m .threads) w) mem
 
+-- so one that does not is refused, and has changed nothing
+pub stop-refused : (m : Machine) (mem : List ℕ) (w : ℕ) (e : Event) → goes-on (step m mem w e .done .answer) ≡ false → eqb (refusal m (length mem) w e) 0 ≡ false
+stop-refused m mem w e p =
+    ne-eqb _ 0 (λ (z : refusal m (length mem) w e ≡ 0). true≢false (sym (passed-goes m mem w e) ∙ ap (λ (o : Outcome). goes-on (o .done .answer)) (sym (step-passed m mem w e z)) ∙ p))
+
 pub stop-changes-nothing : StopChangesNothing
-stop-changes-nothing m mem w e p = go (ℕ-discrete (refusal m (length mem) w e) 0)
-  where
-    go : Dec (refusal m (length mem) w e ≡ 0) → (step m mem w e .done .machine ≡ m) × (step m mem w e .memory ≡ mem)
-    go (yes z) = absurd (true≢false (sym (passed-goes m mem w e) ∙ ap (λ (o : Outcome). goes-on (o .done .answer)) (sym (step-passed m mem w e z)) ∙ p))
-    go (no n) =
-        let o = step-refused m mem w e _ refl (ne-eqb _ 0 n) in
-        (ap (λ (x : Outcome). x .done .machine) o, ap (λ (x : Outcome). x .memory) o)
+stop-changes-nothing m mem w e p =
+    let o = step-refused m mem w e _ refl (stop-refused m mem w e p) in
+    (ap (λ (x : Outcome). x .done .machine) o, ap (λ (x : Outcome). x .memory) o)
 
 -- a record that is not counted changes nothing and stops the run
 pub one-stops : (r : Read) (m : Machine) (mem : List ℕ) (k : ℕ) → eqb (one r m mem k .ended .count) k ≡ true
