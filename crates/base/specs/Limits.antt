@@ -1,5 +1,5 @@
 -- The limits of document 01, "The machine". src/lib.rt has the same numbers for the code.
-use Prim.Native.Nat.{ℕ}
+use Prim.Native.Nat.{ℕ, _*_}
 
 -- doublewords of a line; lines of the largest memory; words of a line set, of 64 lines each
 abbrev pub line-size : ℕ
@@ -10,6 +10,10 @@ lines = 256
 
 abbrev pub words : ℕ
 words = 4
+
+-- doublewords of the largest memory, which is the fresh machine's
+abbrev pub most-memory : ℕ
+most-memory = line-size * lines
 
 -- the most lines of a footprint, places of a log, levels of nesting and thread records
 abbrev pub most-footprint : ℕ

@@ -9,6 +9,9 @@ pub const LINE: usize = 16;
 
 pub const LINES: usize = 256;
 
+// Doublewords of the largest memory, which is the fresh machine's.
+pub const MEMORY: usize = 4096;
+
 // Words of a line set, of 64 lines each.
 pub const WORDS: usize = 4;
 

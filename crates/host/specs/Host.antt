@@ -2,11 +2,9 @@
 use Prim.Native.Nat.{ℕ}
 use mathlib.Core.Bool.{true, cond}
 use mathlib.Core.List.{List}
-use lib.Dec.{eqb}
 use lib.ListN.{length}
-use Rattle.machine.specs.Valid.{sized, valid}
+use Rattle.machine.specs.Valid.{sized, machine-number, first-of}
 use Rattle.step.specs.Step as events
-use Rattle.machine.specs.declared.Machine.{Machine}
 use Rattle.tape.specs.Fields.{fields, fields-of}
 use Rattle.tape.specs.Tape as tape
 use Rattle.tape.specs.declared.Fields.{Fields}
@@ -23,10 +21,6 @@ use Rattle.host.specs.declared.RawRecord.{RawRecord}
 abbrev pub version : ℕ
 version = 0x00040000
 
--- the numbers 1 and 2 of a machine over a memory of len doublewords, or 0
-unfoldable pub machine-number : Machine → ℕ → ℕ
-machine-number m len = cond (sized m len) (cond (valid m len) 0 2) 1
-
 -- the numbers 1 and 2 of any bits: bits that are no machine are 2 where the size is right
 unfoldable pub number : RawMachine → ℕ → ℕ
 number m len = cond (right m) (machine-number (machine-of m) len) (cond (sized (machine-of m) len) 2 1)
@@ -38,10 +32,6 @@ pub record RawOutcome : Type 0 where
 
 abbrev pub outcome : ℕ → RawMachine → List ℕ → RawOutcome
 outcome n m mem = record { done = record { answer = n; machine = m }; memory = mem }
-
--- refused by n unless 1 or 2 comes first
-abbrev pub first-of : ℕ → ℕ → ℕ
-first-of k n = cond (eqb k 0) n k
 
 abbrev pub crossed : events.Outcome → RawOutcome
 crossed o = outcome (o .done .answer) (raw-machine (o .done .machine)) (o .memory)

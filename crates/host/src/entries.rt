@@ -1,14 +1,14 @@
 // What a host calls. No contract asks anything of the caller but that a pointer and its length are true.
 ghost use mathlib.Core.Path.{_≡_};
 ghost use Rattle.machine.specs.Machine.{fresh};
+ghost use Rattle.machine.specs.Valid.{first-of};
 ghost use Rattle.crossing.specs.Crossing.{raw-machine};
-ghost use Rattle.host.specs.Host.{version, machine-number, number, first-of, step, run, read, write-answer, write};
+ghost use Rattle.host.specs.Host.{version, number, step, run, read, write-answer, write};
 use crate::RawDone;
 use crate::RawEnded;
 use crate::RawRecord;
 use crate::VERSION;
 use crossing::RawMachine;
-use machine::Machine;
 use tape::Fields;
 use tape::Read;
 
@@ -27,26 +27,13 @@ pub extern "C" fn naszeptan_fresh() -> RawMachine
     crossing::raw_machine(machine::fresh())
 }
 
-// The tests 1 and 2 of a machine.
-fn machine_number(m: Machine, len: usize) -> u8
-    ensures { λ r. ⌜ r ≡ machine-number m len ⌝ }
-{
-    if !machine::valid::sized(m, len) {
-        return 1;
-    }
-    if machine::valid::valid(m, len) {
-        return 0;
-    }
-    2
-}
-
 // The tests 1 and 2 of any bits.
 #[no_mangle]
 pub extern "C" fn naszeptan_valid(m: RawMachine, len: usize) -> u8
     ensures { λ r. ⌜ r ≡ number m len ⌝ }
 {
     if crossing::right(m) {
-        return machine_number(crossing::machine_of(m), len);
+        return machine::valid::number(crossing::machine_of(m), len);
     }
     if machine::valid::sized(crossing::machine_of(m), len) {
         return 2;
@@ -91,7 +78,7 @@ pub extern "C" fn naszeptan_step(m: RawMachine, mem: &mut [u64], e: Fields) -> R
     }
 }
 
-// A tape, record by record.
+// A tape, record by record. The answers of the records have no place here.
 #[no_mangle]
 pub extern "C" fn naszeptan_run(m: RawMachine, mem: &mut [u64], tape: &[u8]) -> RawEnded
     ensures { λ r. ⌜ r ≡ run m (now (mem .entry)) (now (tape .entry)) .ended ⌝ }
@@ -105,7 +92,8 @@ pub extern "C" fn naszeptan_run(m: RawMachine, mem: &mut [u64], tape: &[u8]) -> 
             machine: m,
         };
     }
-    let ended = run::run(crossing::machine_of(m), mem, tape);
+    let mut none = [0; 1];
+    let ended = run::run(crossing::machine_of(m), mem, tape, &mut none[..0]);
     RawEnded {
         answer: ended.answer,
         count: ended.count,

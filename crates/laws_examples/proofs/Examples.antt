@@ -38,7 +38,7 @@ unfolding all-below any-below count-below
     effect begins.tend aborts.tabort aborts.tabort-if begins.tsuspend begins.tsr reclaims.treclaim special.get-spr special.mfspr
     access.ld access.logs access.meets-own access.std plain.addi plain.disallowed plain.interrupt
     fresh fresh-thread
-    valid.sized valid.shaped valid.place-right valid.unused-zero valid.aligned valid.cr-small valid.fields-small valid.no-line valid.holds-nothing valid.live-rules valid.state-rules valid.indices-inside valid.line-inside valid.lines-inside valid.unlike valid.distinct valid.logs-line valid.line-logged valid.writes-logged valid.held-right valid.thread-valid valid.clash valid.clear-of valid.apart valid.thread-right valid.threads-right valid.valid
+    valid.sized valid.shaped valid.place-right valid.unused-zero valid.aligned valid.cr-small valid.fields-small valid.no-line valid.holds-nothing valid.live-rules valid.state-rules valid.indices-inside valid.line-inside valid.lines-inside valid.unlike valid.distinct valid.logs-line valid.line-logged valid.writes-logged valid.held-right valid.thread-valid valid.clash valid.clear-of valid.apart valid.thread-right valid.threads-right valid.valid valid.machine-number
     bad-thing refused-there refused-later refusal hits struck strike others perform step tells seen
 computed = true
 

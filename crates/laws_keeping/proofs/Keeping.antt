@@ -30,7 +30,7 @@ use Rattle.laws_keeping.proofs.Effects.{written-length, effect-keeps}
 use Rattle.laws_keeping.proofs.Sets.{Stores, Loads, writes-touch, effect-writes, effect-touches}
 use Rattle.laws_keeping.proofs.Others.{Fits, Met, others-length, others-met}
 use Rattle.laws_keeping.proofs.Parts.{thread-of, Clear, Right, valid-right, right-valid}
-use Rattle.laws_keeping.specs.Keeping.{Keeps, RefusedUntouched, OneAnswer}
+use Rattle.laws_keeping.specs.Keeping.{Keeps, RefusedUntouched}
 
 -- ---- the machine after an effect of thread w: the others after what it touches, and its own thread
 
@@ -133,6 +133,3 @@ keeps m mem w e v = fork (Kept mem) (eqb (refusal m (length mem) w e) 0) (λ p. 
 pub refused-untouched : RefusedUntouched
 unfolding step
 refused-untouched m mem w e r = rw (ne-eqb (refusal m (length mem) w e) 0 r)
-
-pub one-answer : OneAnswer
-one-answer m mem w e a b x y p q r s = (p ∙ sym r, q ∙ sym s)

@@ -9,7 +9,6 @@ use Rattle.machine.specs.Valid.{valid}
 use Rattle.refusal.specs.Refusal.{refusal}
 use Rattle.step.specs.Step.{outcome, step}
 use Rattle.machine.specs.declared.Machine.{Machine}
-use Rattle.step.specs.declared.Done.{Done}
 
 -- from a valid machine every event, refused or not, leaves a valid machine over a memory of the same length
 abbrev pub Keeps : Type 0
@@ -22,10 +21,3 @@ abbrev pub RefusedUntouched : Type 0
 RefusedUntouched =
     (m : Machine) (mem : List ℕ) (w : ℕ) (e : Event) → (refusal m (length mem) w e ≡ 0 → ⊥)
     → step m mem w e ≡ outcome (refusal m (length mem) w e) m mem
-
--- two answers that the step's contract allows are one answer, with one machine and one memory
-abbrev pub OneAnswer : Type 0
-OneAnswer =
-    (m : Machine) (mem : List ℕ) (w : ℕ) (e : Event) (a b : Done) (x y : List ℕ)
-    → a ≡ step m mem w e .done → x ≡ step m mem w e .memory → b ≡ step m mem w e .done → y ≡ step m mem w e .memory
-    → (a ≡ b) × (x ≡ y)

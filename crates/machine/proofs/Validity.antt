@@ -1,15 +1,15 @@
 -- What a valid machine tells: sizes, and that its threads are valid.
 use mathlib.Core.Path.{_≡_}
-use mathlib.Core.Bool.{true, _&&_}
+use mathlib.Core.Bool.{true, not, _&&_}
 use Prim.Native.Nat.{ℕ, _*_, _%_, _≤_, _<_}
 use native.Mathlib.Omega.{arith}
 use lib.Dec.{eqb, leb}
 use lib.ListN.{length}
-use borrow.Author.Tests.{leb-true, lt-ltb}
+use borrow.Author.Tests.{leb-true, lt-ltb, not-false}
 use Rattle.base.specs.Limits.{line-size, lines, most-places, most-threads}
-use Rattle.base.proofs.Below.{and-left, and-right, all-at}
+use Rattle.base.proofs.Below.{and-left, and-right, all-at, no-number}
 use Rattle.machine.specs.Machine.{thread}
-use Rattle.machine.specs.Valid.{memory-sized, sized, shaped, aligned, fields-small, state-rules, indices-inside, lines-inside, distinct, writes-logged, held-right, thread-valid, thread-right, threads-right, apart, valid}
+use Rattle.machine.specs.Valid.{memory-sized, sized, shaped, aligned, fields-small, state-rules, indices-inside, lines-inside, distinct, writes-logged, held-right, thread-valid, thread-right, threads-right, apart, valid, machine-number}
 use Rattle.machine.specs.declared.Machine.{Machine}
 use Rattle.machine.proofs.Laws.{unused-count}
 
@@ -51,3 +51,12 @@ module _ (m : Machine) (len : ℕ) (v : valid m len ≡ true) where
       let x = t .transaction in
       let held = and-right (shaped t && aligned (t .control) && fields-small t && state-rules (t .control .msr .state) t) (held-right x len) (valid-thread w h) in
       unused-count x (and-left _ (indices-inside x len) (and-left _ (lines-inside x len) (and-left _ (distinct x) (and-left _ (writes-logged x) held))))
+
+-- a valid machine is one that the tests 1 and 2 pass
+pub valid-passes : (m : Machine) (len : ℕ) → valid m len ≡ true → machine-number m len ≡ 0
+unfolding machine-number
+valid-passes m len v = simp (valid-sized m len v, v)
+
+pub passes-valid : (m : Machine) (len : ℕ) → machine-number m len ≡ 0 → valid m len ≡ true
+unfolding machine-number
+passes-valid m len z = not-false (valid m len) (no-number _ 1 _ (no-number (not (sized m len)) 0 _ z .1) .0)

@@ -3,7 +3,7 @@ use Prim.Native.Nat.{ℕ}
 use mathlib.Core.Bool.{Bool, true, false}
 use mathlib.Core.List.{List, []}
 use lib.ListN.{getD, replicate}
-use Rattle.base.specs.Limits.{most-threads}
+use Rattle.base.specs.Limits.{most-memory, most-threads}
 use Rattle.lines.specs.declared.LineSet.{LineSet}
 use Rattle.transaction.specs.Transaction as transaction
 use Rattle.thread.specs.declared.Registers.{Registers}
@@ -51,4 +51,4 @@ unfoldable pub fresh : Machine
 fresh = record { count = most-threads; threads = replicate most-threads fresh-thread }
 
 abbrev pub fresh-memory : List ℕ
-fresh-memory = replicate 4096 0
+fresh-memory = replicate most-memory 0

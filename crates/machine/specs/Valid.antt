@@ -3,7 +3,7 @@ use Prim.Native.Nat.{ℕ, _*_, _%_}
 use mathlib.Core.Bool.{Bool, true, false, not, cond, _&&_, _||_, Bool·beq}
 use lib.Dec.{eqb, leb, ltb}
 use lib.ListN.{getD, length}
-use Rattle.base.specs.Limits.{line-size, lines, words, most-footprint, most-places, most-levels, most-threads}
+use Rattle.base.specs.Limits.{line-size, lines, most-memory, words, most-footprint, most-places, most-levels, most-threads}
 use Rattle.base.specs.Below.{all-below, any-below}
 use Rattle.lines.specs.Lines as lineset
 use Rattle.lines.specs.declared.LineSet.{LineSet}
@@ -24,7 +24,7 @@ use Rattle.machine.specs.declared.Machine.{Machine}
 
 -- number 1: memory of whole lines, 1 to 256 of them, and a count that the records can hold
 abbrev pub memory-sized : ℕ → Bool
-memory-sized len = eqb (len % line-size) 0 && leb line-size len && leb len (line-size * lines)
+memory-sized len = eqb (len % line-size) 0 && leb line-size len && leb len most-memory
 
 unfoldable pub sized : Machine → ℕ → Bool
 sized m len = memory-sized len && leb 1 (m .count) && leb (m .count) most-threads
@@ -166,3 +166,11 @@ threads-right m len = all-below (thread-right m len) most-threads
 -- all of it, with the sizes that number 1 tests
 unfoldable pub valid : Machine → ℕ → Bool
 valid m len = sized m len && eqb (length (m .threads)) most-threads && threads-right m len && apart m
+
+-- the number of a machine over a memory of len doublewords: 1, or 2, or 0
+unfoldable pub machine-number : Machine → ℕ → ℕ
+machine-number m len = cond (not (sized m len)) 1 (cond (not (valid m len)) 2 0)
+
+-- the first of two numbers that refuses
+abbrev pub first-of : ℕ → ℕ → ℕ
+first-of k n = cond (eqb k 0) n k

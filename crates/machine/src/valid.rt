@@ -4,14 +4,14 @@ ghost use mathlib.Core.Bool.{_||_};
 ghost use Prim.Native.Nat.{_<_};
 ghost use Rattle.base.specs.Limits.{most-threads};
 ghost use Rattle.lines.specs.Lines.{meets};
-ghost use Rattle.machine.specs.Valid.{memory-sized, sized, aligned, cr-small, fields-small, live-rules, state-rules, thread-valid, clear-of, apart, thread-right, threads-right, valid};
+ghost use Rattle.machine.specs.Valid.{memory-sized, sized, aligned, cr-small, fields-small, live-rules, state-rules, thread-valid, clear-of, apart, thread-right, threads-right, valid, machine-number};
 use crate::Machine;
 use crate::held;
 use crate::zeros;
 use base::FOOTPRINT;
 use base::LEVELS;
 use base::LINE;
-use base::LINES;
+use base::MEMORY;
 use base::THREADS;
 use lines::LineSet;
 use thread::Control;
@@ -28,7 +28,7 @@ fn memory_sized(len: usize) -> bool
     if len < LINE {
         return false;
     }
-    len <= LINE * LINES
+    len <= MEMORY
 }
 
 // Number 1: memory length and thread count.
@@ -227,7 +227,7 @@ fn threads_right(m: Machine, len: usize) -> bool
 }
 
 // The whole of document 01's valid machine, over a memory of len doublewords.
-pub fn valid(m: Machine, len: usize) -> bool
+fn valid(m: Machine, len: usize) -> bool
     ensures { λ r. ⌜ r ≡ valid m len ⌝ }
 {
     if !sized(m, len) {
@@ -237,4 +237,17 @@ pub fn valid(m: Machine, len: usize) -> bool
         return false;
     }
     apart(m)
+}
+
+// The tests 1 and 2, in this order; 0 for a machine that passes both.
+pub fn number(m: Machine, len: usize) -> u8
+    ensures { λ r. ⌜ r ≡ machine-number m len ⌝ }
+{
+    if !sized(m, len) {
+        return 1;
+    }
+    if !valid(m, len) {
+        return 2;
+    }
+    0
 }

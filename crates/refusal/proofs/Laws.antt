@@ -10,7 +10,7 @@ use Rattle.event.specs.declared.Event.{Event}
 use Rattle.machine.specs.Machine.{thread}
 use Rattle.machine.specs.Valid.{valid}
 use Rattle.machine.specs.declared.Machine.{Machine}
-use Rattle.machine.proofs.Validity.{valid-sized}
+use Rattle.machine.proofs.Validity.{valid-passes}
 use Rattle.refusal.specs.Refusal.{refused-there, refused-later, refusal}
 
 -- an event that passes the later tests has a thread, right operands, and passes those on its thread
@@ -34,4 +34,4 @@ module _ (m : Machine) (len w : ℕ) (e : Event) (z : refused-later m len w e �
 -- on a valid machine only the later tests are left
 pub refusal-valid : (m : Machine) (len w : ℕ) (e : Event) → valid m len ≡ true → refusal m len w e ≡ refused-later m len w e
 unfolding refusal
-refusal-valid m len w e v = simp (valid-sized m len v, v)
+refusal-valid m len w e v = simp (valid-passes m len v)

@@ -9,7 +9,7 @@ use Rattle.thread.specs.declared.Control.{Control}
 use Rattle.event.specs.Event.{kind, operands-right}
 use Rattle.event.specs.declared.Event.{Event}
 use Rattle.machine.specs.Machine.{thread}
-use Rattle.machine.specs.Valid.{sized, valid}
+use Rattle.machine.specs.Valid.{machine-number, first-of}
 use Rattle.machine.specs.declared.Machine.{Machine}
 
 -- number 5: event 17 in T
@@ -50,6 +50,6 @@ refused-later m len w e =
     (cond (not (operands-right e len)) 4
     (refused-there (thread (m .threads) w .control) (kind e)))
 
--- the number by which an event is refused, or 0
+-- the number by which an event is refused, or 0: the machine's comes first
 unfoldable pub refusal : Machine → ℕ → ℕ → Event → ℕ
-refusal m len w e = cond (not (sized m len)) 1 (cond (not (valid m len)) 2 (refused-later m len w e))
+refusal m len w e = first-of (machine-number m len) (refused-later m len w e)

@@ -1,64 +1,75 @@
--- Where a run ends: at the tape's end, or at the first record that is refused.
+-- Where a run ends, at the tape's end or at the first record that is refused, and how many answers it has then.
 use mathlib.Core.Path.{_≡_, refl, sym, ap, subst, _∙_}
-use mathlib.Core.Bool.{Bool, true, false, true≢false}
-use mathlib.Core.Logic.{inl, inr}
+use mathlib.Core.Bool.{Bool, true, false}
+use mathlib.Core.Logic.{_⊎_, inl, inr, ⊎-elim}
 use mathlib.Core.List.{List}
-use Prim.Native.Nat.{ℕ, zero, suc, _+_, _-_, _/_}
+use Prim.Native.Nat.{ℕ, zero, suc, _+_, _-_, _/_, _%_, _<_}
 use native.Mathlib.Omega.{arith}
 use lib.Dec.{eqb}
-use lib.ListN.{length}
-use borrow.Author.Tests.{eqb-true, ne-eqb}
+use lib.ListN.{length, getD}
+use borrow.Author.Tests.{eqb-true}
+use Rattle.machine.specs.Valid.{valid}
 use Rattle.machine.specs.declared.Machine.{Machine}
-use Rattle.machine.proofs.Validity.{valid-sized}
-use Rattle.step.specs.Step.{step}
 use Rattle.tape.specs.Tape.{record-size, read}
-use Rattle.tape.specs.declared.Read.{Read}
-use Rattle.tape.specs.declared.Read.the-variants.{Record, Refused}
-use Rattle.run.specs.Run.{Result, goes-on, record-at, counted, one, run-from, run}
-use Rattle.run.specs.Steps.{Stops, EndsAt, EndsFirst}
-use Rattle.run.proofs.Laws.{is-counted, run-stops, run-goes}
-use Rattle.run.proofs.Steps.{stop-changes-nothing}
+use Rattle.run.specs.Run.{Result, in-front, record-at, reads, one, play, run}
+use Rattle.run.specs.Steps.{Stops, EndsFirst, OneAnswerEach}
+use Rattle.run.proofs.Laws.{one-answer, play-stops, play-goes, run-plays}
+use Rattle.run.proofs.Steps.{one-stops}
 
--- a record that is not counted ends the run, and the machine given back is the one that it was refused on
-one-ends : (r : Read) (m : Machine) (mem : List ℕ) (k : ℕ) → eqb (one r m mem k .ended .count) k ≡ true
-    → Stops r (one r m mem k .ended .machine) (one r m mem k .memory) (one r m mem k .ended .answer)
-unfolding one counted
-one-ends (Refused n) m mem k p = refl
-one-ends (Record w e) m mem k p = go (goes-on (step m mem w e .done .answer)) refl
-  where
-    go : (b : Bool) → goes-on (step m mem w e .done .answer) ≡ b
-        → (step (step m mem w e .done .machine) (step m mem w e .memory) w e .done .answer ≡ step m mem w e .done .answer)
-        × (goes-on (step m mem w e .done .answer) ≡ false)
-    go true q = absurd (true≢false (sym p ∙ ap (λ (c : Result). eqb (c .ended .count) k) (is-counted (step m mem w e) k q) ∙ ne-eqb (k + 1) k (λ (z : k + 1 ≡ k). omega arith)))
-    go false q =
-        let s = stop-changes-nothing m mem w e q in
-        ((λ j. step (s .0 j) (s .1 j) w e .done .answer), q)
+-- the end of a run over n records from record k on, of which c are counted
+abbrev End : List ℕ → ℕ → ℕ → Result → ℕ → Type 0
+End tape k n r c =
+    ((c ≡ n) × (r .ended .answer ≡ 0) × (length (r .answers) ≡ n))
+    ⊎ ((c < n)
+    × Stops (read (record-at tape (k + c))) (r .ended .machine) (r .memory) (r .ended .answer)
+    × (length (r .answers) ≡ c + 1)
+    × (getD (r .answers) c 0 ≡ r .ended .answer))
 
-ends : (n : ℕ) (tape : List ℕ) (k : ℕ) (m : Machine) (mem : List ℕ) → EndsAt (k + n) tape (run-from n tape k m mem)
-unfolding run-from
-ends zero tape k m mem = inl ((let e : k ≡ k + 0 = omega arith in e), refl)
-ends (suc n) tape k m mem = go (eqb (t .ended .count) k) refl (λ m' mem'. ends n tape (k + 1) m' mem')
+abbrev Ends : List ℕ → ℕ → ℕ → Result → Type 0
+Ends tape k n r = (c : ℕ) × (r .ended .count ≡ k + c) × End tape k n r c
+
+ends : (n : ℕ) (tape : List ℕ) (k : ℕ) (m : Machine) (mem : List ℕ) → Ends tape k n (play (reads tape k n) k m mem)
+unfolding reads play
+ends zero tape k m mem = (0, omega arith, inl (refl, refl, refl))
+ends (suc n) tape k m mem = go (eqb (t .ended .count) k) refl (ends n tape (k + 1) (t .ended .machine) (t .memory))
   where
     t : Result
     t = one (read (record-at tape k)) m mem k
 
-    go : (b : Bool) → eqb (t .ended .count) k ≡ b → ((m' : Machine) (mem' : List ℕ) → EndsAt (k + 1 + n) tape (run-from n tape (k + 1) m' mem'))
-        → EndsAt (k + suc n) tape (run-from (suc n) tape k m mem)
+    rest : Result
+    rest = play (reads tape (k + 1) n) (k + 1) (t .ended .machine) (t .memory)
+
+    next : (c : ℕ) → End tape (k + 1) n rest c → End tape k (suc n) (in-front (t .ended .answer) rest) (suc c)
+    next c (inl w) = inl (omega arith, w .1, omega arith)
+    next c (inr w) =
+        let i : k + 1 + c ≡ k + suc c = omega arith in
+        inr (omega arith, subst (λ (l : ℕ). Stops (read (record-at tape l)) (rest .ended .machine) (rest .memory) (rest .ended .answer)) i (w .1), omega arith, w .3)
+
+    go : (b : Bool) → eqb (t .ended .count) k ≡ b → Ends tape (k + 1) n rest → Ends tape k (suc n) (play (reads tape k (suc n)) k m mem)
     go true q ih =
-        let c : t .ended .count ≡ k = eqb-true _ _ q in
-        let z = one-ends (read (record-at tape k)) m mem k q in
-        subst (EndsAt (k + suc n) tape) (sym (run-stops tape k m mem (suc n) (omega arith) q))
-        (inr ((omega (arith, c)), subst (λ (i : ℕ). Stops (read (record-at tape i)) (t .ended .machine) (t .memory) (t .ended .answer)) (sym c) z))
-    go false q ih =
+        let z : k ≡ k + 0 = omega arith in
+        let a = one-answer (read (record-at tape k)) m mem k in
+        subst (Ends tape k (suc n)) (sym (play-stops tape k m mem (suc n) (omega arith) q))
+        ((0, eqb-true _ _ q ∙ z, inr (omega arith, subst (λ (l : ℕ). Stops (read (record-at tape l)) (t .ended .machine) (t .memory) (t .ended .answer)) z (one-stops (read (record-at tape k)) m mem k q .2), ap length a, ap (λ (l : List ℕ). getD l 0 0) a)))
+    go false q (c, p, e) =
         let i : suc n - 1 ≡ n = omega arith in
-        let j : k + 1 + n ≡ k + suc n = omega arith in
-        subst (λ (r : Result). EndsAt (k + suc n) tape r) (sym (run-goes tape k m mem (suc n) (omega arith) q))
-        (subst (λ (l : ℕ). EndsAt (k + suc n) tape (run-from l tape (k + 1) (t .ended .machine) (t .memory))) (sym i)
-        (subst (λ (l : ℕ). EndsAt l tape (run-from n tape (k + 1) (t .ended .machine) (t .memory))) j (ih (t .ended .machine) (t .memory))))
+        subst (Ends tape k (suc n)) (sym (play-goes tape k m mem (suc n) (omega arith) q ∙ (λ j. in-front (t .ended .answer) (play (reads tape (k + 1) (i j)) (k + 1) (t .ended .machine) (t .memory)))))
+        ((suc c, omega arith, next c e))
+
+-- of a run from its start
+module _ (m : Machine) (mem tape : List ℕ) (v : valid m (length mem) ≡ true) (r : eqb (length tape % record-size) 0 ≡ true) where
+  run-ends : End tape 0 (length tape / record-size) (run m mem tape) (run m mem tape .ended .count)
+  run-ends =
+      let n = length tape / record-size in
+      let (c, p, e) = ends n tape 0 m mem in
+      let i : c ≡ play (reads tape 0 n) 0 m mem .ended .count = omega arith in
+      subst (λ (x : Result). End tape 0 n x (x .ended .count)) (sym (run-plays m mem tape v r)) (subst (End tape 0 n (play (reads tape 0 n) 0 m mem)) i e)
 
 pub ends-first : EndsFirst
-unfolding run
 ends-first m mem tape v r =
-    let n = length tape / record-size in
+    let n = run m mem tape .ended .count in
     let z : 0 + n ≡ n = omega arith in
-    simp (valid-sized m (length mem) v, v, r) (subst (λ (l : ℕ). EndsAt l tape (run-from n tape 0 m mem)) z (ends n tape 0 m mem))
+    ⊎-elim (λ w. inl (w .0, w .1)) (λ w. inr (w .0, subst (λ (l : ℕ). Stops (read (record-at tape l)) (run m mem tape .ended .machine) (run m mem tape .memory) (run m mem tape .ended .answer)) z (w .1))) (run-ends m mem tape v r)
+
+pub one-answer-each : OneAnswerEach
+one-answer-each m mem tape v r = ⊎-elim (λ w. inl (w .0, w .2)) (λ w. inr (w .0, w .2, w .3)) (run-ends m mem tape v r)

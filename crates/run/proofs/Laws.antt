@@ -1,29 +1,45 @@
--- Laws of the run: what one record leaves, one turn of the run, and that the machine stays valid.
-use mathlib.Core.Path.{_≡_, refl, ap}
-use mathlib.Core.Bool.{true, false}
-use mathlib.Core.List.{List}
-use Prim.Native.Nat.{ℕ, zero, suc, _+_, _-_, _*_, _≤_, _<_}
+-- Laws of the run: what one record leaves, one turn of the run and of its answers in a buffer, the tests before it, and that the machine stays valid.
+use mathlib.Core.Path.{_≡_, refl, ap, _∙_}
+use mathlib.Core.Bool.{Bool, true, false, not, cond}
+use mathlib.Core.List.{List, [], _∷_}
+use Prim.Native.Nat.{ℕ, zero, suc, _+_, _-_, _*_, _/_, _%_, _≤_, _<_}
 use native.Mathlib.Nat.{not-suc-le-zero}
 use native.Mathlib.Omega.{arith}
+use borrow.Author.Tests.{eq-eqb, ne-eqb}
 use lib.Dec.{eqb}
-use lib.ListN.{length, take, drop}
-use Rattle.machine.specs.Valid.{valid}
+use lib.ListN.{length, take, drop, set}
+use lib.Seq.{sets}
+use Rattle.machine.specs.Valid.{valid, machine-number, first-of}
+use Rattle.machine.proofs.Validity.{valid-passes}
 use Rattle.step.specs.Step.{Outcome}
 use Rattle.machine.specs.declared.Machine.{Machine}
 use Rattle.tape.specs.Tape.{record-size, read}
 use Rattle.tape.specs.declared.Read.{Read}
 use Rattle.tape.specs.declared.Read.the-variants.{Record, Refused}
 use Rattle.laws_keeping.proofs.Keeping.{keeps}
-use Rattle.run.specs.Run.{Result, result, goes-on, record-at, counted, one, run-from}
+use Rattle.run.specs.Run.{Result, result, in-front, goes-on, record-at, reads, counted, one, play, tape-number, run}
 
 -- an event that the run goes on after is counted, another is not
-pub is-counted : (o : Outcome) (k : ℕ) → goes-on (o .done .answer) ≡ true → counted o k ≡ result (o .done .answer) (k + 1) (o .done .machine) (o .memory)
+pub is-counted : (o : Outcome) (k : ℕ) → goes-on (o .done .answer) ≡ true
+    → counted o k ≡ result (o .done .answer) (k + 1) (o .done .machine) (o .memory) (o .done .answer ∷ [])
 unfolding counted
 is-counted o k p = simp p
 
-pub not-counted : (o : Outcome) (k : ℕ) → goes-on (o .done .answer) ≡ false → counted o k ≡ result (o .done .answer) k (o .done .machine) (o .memory)
+pub not-counted : (o : Outcome) (k : ℕ) → goes-on (o .done .answer) ≡ false
+    → counted o k ≡ result (o .done .answer) k (o .done .machine) (o .memory) (o .done .answer ∷ [])
 unfolding counted
 not-counted o k p = simp p
+
+-- and the count tells which it was
+pub uncounted : (b : Bool) (k : ℕ) → eqb (cond b (k + 1) k) k ≡ not b
+uncounted true k = ne-eqb (k + 1) k (λ (z : k + 1 ≡ k). omega arith)
+uncounted false k = eq-eqb k k refl
+
+-- one record has one answer
+pub one-answer : (r : Read) (m : Machine) (mem : List ℕ) (k : ℕ) → one r m mem k .answers ≡ one r m mem k .ended .answer ∷ []
+unfolding one counted
+one-answer (Refused n) m mem k = refl
+one-answer (Record w e) m mem k = refl
 
 -- a record of a tape as the code takes it
 pub part-is : (tape : List ℕ) (k : ℕ) → take (k * record-size + record-size - k * record-size) (drop (k * record-size) tape) ≡ record-at tape k
@@ -32,25 +48,58 @@ part-is tape k =
     let b : k * record-size ≡ record-size * k = omega arith in
     λ j. take (a j) (drop (b j) tape)
 
--- the end of the tape, and one turn before it
-pub run-none : (n : ℕ) (tape : List ℕ) (k : ℕ) (m : Machine) (mem : List ℕ) → n ≤ 0 → run-from n tape k m mem ≡ result 0 k m mem
-unfolding run-from
-run-none zero tape k m mem h = refl
-run-none (suc n) tape k m mem h = absurd (not-suc-le-zero h)
+-- the answers of a run put into a buffer from place k on
+abbrev pub filled : List ℕ → ℕ → Result → Result
+filled old k r = record { ended = r .ended; memory = r .memory; answers = sets old k (r .answers) }
 
+-- the end of the tape, and one turn before it
 module _ (tape : List ℕ) (k : ℕ) (m : Machine) (mem : List ℕ) where
+  pub play-none : (n : ℕ) → n ≤ 0 → play (reads tape k n) k m mem ≡ result 0 k m mem []
+  unfolding reads play
+  play-none zero h = refl
+  play-none (suc n) h = absurd (not-suc-le-zero h)
+
   abbrev turn : Result
   turn = one (read (record-at tape k)) m mem k
 
-  pub run-stops : (n : ℕ) → 0 < n → eqb (turn .ended .count) k ≡ true → run-from n tape k m mem ≡ turn
-  unfolding run-from
-  run-stops zero h p = absurd (not-suc-le-zero h)
-  run-stops (suc n) h p = simp p
+  pub play-stops : (n : ℕ) → 0 < n → eqb (turn .ended .count) k ≡ true → play (reads tape k n) k m mem ≡ turn
+  unfolding reads play
+  play-stops zero h p = absurd (not-suc-le-zero h)
+  play-stops (suc n) h p = simp p
 
-  pub run-goes : (n : ℕ) → 0 < n → eqb (turn .ended .count) k ≡ false → run-from n tape k m mem ≡ run-from (n - 1) tape (k + 1) (turn .ended .machine) (turn .memory)
-  unfolding run-from
-  run-goes zero h p = absurd (not-suc-le-zero h)
-  run-goes (suc n) h p = simp p (ap (λ (i : ℕ). run-from i tape (k + 1) (turn .ended .machine) (turn .memory)) (let e : n ≡ suc n - 1 = omega arith in e))
+  pub play-goes : (n : ℕ) → 0 < n → eqb (turn .ended .count) k ≡ false
+      → play (reads tape k n) k m mem ≡ in-front (turn .ended .answer) (play (reads tape (k + 1) (n - 1)) (k + 1) (turn .ended .machine) (turn .memory))
+  unfolding reads play
+  play-goes zero h p = absurd (not-suc-le-zero h)
+  play-goes (suc n) h p =
+      let e : n ≡ suc n - 1 = omega arith in
+      simp p (λ j. in-front (turn .ended .answer) (play (reads tape (k + 1) (e j)) (k + 1) (turn .ended .machine) (turn .memory)))
+
+  -- the same of a buffer of answers
+  pub fills-stops : (old : List ℕ) (n : ℕ) → 0 < n → eqb (turn .ended .count) k ≡ true
+      → filled old k (play (reads tape k n) k m mem) ≡ record { ended = turn .ended; memory = turn .memory; answers = set old k (turn .ended .answer) }
+  fills-stops old n h p =
+      ap (filled old k) (play-stops n h p)
+      ∙ ap (λ (given : List ℕ). record { ended = turn .ended; memory = turn .memory; answers = sets old k given }) (one-answer (read (record-at tape k)) m mem k)
+
+  pub fills-goes : (old : List ℕ) (n : ℕ) → 0 < n → eqb (turn .ended .count) k ≡ false
+      → filled old k (play (reads tape k n) k m mem)
+      ≡ filled (set old k (turn .ended .answer)) (k + 1) (play (reads tape (k + 1) (n - 1)) (k + 1) (turn .ended .machine) (turn .memory))
+  fills-goes old n h p =
+      let rest = play (reads tape (k + 1) (n - 1)) (k + 1) (turn .ended .machine) (turn .memory) in
+      let e : suc k ≡ k + 1 = omega arith in
+      ap (filled old k) (play-goes n h p) ∙ (λ j. filled (set old k (turn .ended .answer)) (e j) rest)
+
+-- a run whose tests pass plays its records, another does nothing
+module _ (m : Machine) (mem tape : List ℕ) where
+  pub run-refused : (n : ℕ) → first-of (machine-number m (length mem)) (tape-number tape) ≡ n → eqb n 0 ≡ false → run m mem tape ≡ result n 0 m mem []
+  unfolding run
+  run-refused n p z = simp (p, z)
+
+  pub run-plays : valid m (length mem) ≡ true → eqb (length tape % record-size) 0 ≡ true
+      → run m mem tape ≡ play (reads tape 0 (length tape / record-size)) 0 m mem
+  unfolding run
+  run-plays v r = simp (valid-passes m (length mem) v, r)
 
 -- the machine stays valid and memory as long as it was
 pub one-keeps : (r : Read) (m : Machine) (mem : List ℕ) (k : ℕ) → valid m (length mem) ≡ true

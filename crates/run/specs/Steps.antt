@@ -1,11 +1,11 @@
--- A run is its steps: what it leaves is what the public step gives, event by event; and what it counts. Proved in proofs/Steps.antt and proofs/Counts.antt.
+-- A run is its steps: what it leaves is what the public step gives, event by event; what it counts, and what it answers. Proved in proofs/Steps.antt and proofs/Counts.antt.
 use mathlib.Core.Path.{_≡_}
 use mathlib.Core.Bool.{Bool, true, false, _&&_}
 use mathlib.Core.Logic.{_⊎_}
 use mathlib.Core.List.{List, [], _∷_, _++_}
-use Prim.Native.Nat.{ℕ, zero, suc, _+_, _%_, _/_, _<_}
+use Prim.Native.Nat.{ℕ, _+_, _%_, _/_, _<_}
 use lib.Dec.{eqb}
-use lib.ListN.{length}
+use lib.ListN.{length, getD}
 use Rattle.machine.specs.Valid.{valid}
 use Rattle.step.specs.Step.{Outcome, outcome, step, Fed, from, after, feed}
 use Rattle.machine.specs.declared.Machine.{Machine}
@@ -13,24 +13,24 @@ use Rattle.event.specs.declared.Event.{Event}
 use Rattle.tape.specs.Tape.{record-size, read}
 use Rattle.tape.specs.declared.Read.{Read}
 use Rattle.tape.specs.declared.Read.the-variants.{Record, Refused}
-use Rattle.run.specs.Run.{Result, goes-on, record-at, run}
+use Rattle.run.specs.Run.{Result, goes-on, record-at, reads, run}
 
 -- the event of a record, if it is one
 abbrev pub fed : Read → List Fed
 fed (Record w e) = from w e ∷ []
 fed (Refused n) = []
 
--- the events of n records of a tape, from record k on
-unfoldable pub events : List ℕ → ℕ → ℕ → List Fed
-events tape k zero = []
-events tape k (suc n) = fed (read (record-at tape k)) ++ events tape (k + 1) n
+-- the events of records
+unfoldable pub events : List Read → List Fed
+events [] = []
+events (r ∷ rs) = fed r ++ events rs
 
 -- the machine and the memory after a run are those after exactly the records that it counts, fed to the step one by one
 abbrev pub RunIsSteps : Type 0
 RunIsSteps =
     (m : Machine) (mem tape : List ℕ)
-    → (run m mem tape .ended .machine ≡ feed (events tape 0 (run m mem tape .ended .count)) (outcome 0 m mem) .done .machine)
-    × (run m mem tape .memory ≡ feed (events tape 0 (run m mem tape .ended .count)) (outcome 0 m mem) .memory)
+    → (run m mem tape .ended .machine ≡ feed (events (reads tape 0 (run m mem tape .ended .count))) (outcome 0 m mem) .done .machine)
+    × (run m mem tape .memory ≡ feed (events (reads tape 0 (run m mem tape .ended .count))) (outcome 0 m mem) .memory)
 
 -- an event that stops a run has changed nothing
 abbrev pub StopChangesNothing : Type 0
@@ -47,8 +47,8 @@ all-go (f ∷ fs) o = goes-on (after o f .done .answer) && all-go fs (after o f)
 abbrev pub CountedWent : Type 0
 CountedWent =
     (m : Machine) (mem tape : List ℕ)
-    → (length (events tape 0 (run m mem tape .ended .count)) ≡ run m mem tape .ended .count)
-    × (all-go (events tape 0 (run m mem tape .ended .count)) (outcome 0 m mem) ≡ true)
+    → (length (events (reads tape 0 (run m mem tape .ended .count))) ≡ run m mem tape .ended .count)
+    × (all-go (events (reads tape 0 (run m mem tape .ended .count))) (outcome 0 m mem) ≡ true)
 
 -- a record that ends a run with an answer: the reader refuses it by that number, or the step does
 abbrev pub Stops : Read → Machine → List ℕ → ℕ → Type 0
@@ -66,3 +66,15 @@ abbrev pub EndsFirst : Type 0
 EndsFirst =
     (m : Machine) (mem tape : List ℕ) → valid m (length mem) ≡ true → eqb (length tape % record-size) 0 ≡ true
     → EndsAt (length tape / record-size) tape (run m mem tape)
+
+-- the answers of a run over n records: one for each, or one for each that is counted and one more, which is the run's
+abbrev pub Answered : ℕ → Result → Type 0
+Answered n r =
+    ((r .ended .count ≡ n) × (length (r .answers) ≡ n))
+    ⊎ ((r .ended .count < n) × (length (r .answers) ≡ r .ended .count + 1) × (getD (r .answers) (r .ended .count) 0 ≡ r .ended .answer))
+
+-- so a run has an answer for each record done and, where a record stopped it, that one's
+abbrev pub OneAnswerEach : Type 0
+OneAnswerEach =
+    (m : Machine) (mem tape : List ℕ) → valid m (length mem) ≡ true → eqb (length tape % record-size) 0 ≡ true
+    → Answered (length tape / record-size) (run m mem tape)

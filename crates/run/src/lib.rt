@@ -2,10 +2,11 @@
 ghost use mathlib.Core.Path.{_≡_};
 ghost use mathlib.Core.Bool.{true};
 ghost use Prim.Native.Nat.{_%_, _/_, _<_, _^_};
-ghost use lib.ListN.{length};
+ghost use lib.ListN.{length, set};
+ghost use lib.Seq.{sets};
 ghost use Rattle.machine.specs.Valid.{valid};
 ghost use Rattle.tape.specs.Tape.{record-size, read};
-ghost use Rattle.run.specs.Run.{goes-on, one, run-from, run};
+ghost use Rattle.run.specs.Run.{goes-on, reads, one, play, run};
 use machine::Machine;
 use tape::RECORD_SIZE;
 use tape::Read;
@@ -31,7 +32,7 @@ fn goes_on(answer: u8) -> bool
 }
 
 // One record read and done behind k others: a record that stops the run is not counted.
-pub fn one(m: Machine, mem: &mut [u64], bytes: &[u8], k: usize) -> Ended
+fn one(m: Machine, mem: &mut [u64], bytes: &[u8], k: usize) -> Ended
     requires { ⌜ valid m (length (now mem)) ≡ true ⌝ }
     requires { ⌜ k < 2 ^ 63 ⌝ }
     ensures { λ r. ⌜ r ≡ one (read (now (bytes .entry))) m (now (mem .entry)) k .ended ⌝ }
@@ -61,11 +62,21 @@ pub fn one(m: Machine, mem: &mut [u64], bytes: &[u8], k: usize) -> Ended
     }
 }
 
+// A byte at place k of a lent buffer, if it has such a place.
+pub fn put(buffer: &mut [u8], k: usize, byte: u8)
+    ensures { λ r. ⌜ now (buffer .exit) ≡ set (now (buffer .entry)) k byte ⌝ }
+{
+    if k < buffer.len() {
+        buffer[k] = byte;
+    }
+}
+
 // The records of a tape on a machine that is valid: it stays so, and is not tested again.
-fn records(m: Machine, mem: &mut [u64], tape: &[u8]) -> Ended
+fn records(m: Machine, mem: &mut [u64], tape: &[u8], answers: &mut [u8]) -> Ended
     requires { ⌜ valid m (length (now mem)) ≡ true ⌝ }
-    ensures { λ r. ⌜ r ≡ run-from (length (now (tape .entry)) / record-size) (now (tape .entry)) 0 m (now (mem .entry)) .ended ⌝ }
-    ensures { λ r. ⌜ now (mem .exit) ≡ run-from (length (now (tape .entry)) / record-size) (now (tape .entry)) 0 m (now (mem .entry)) .memory ⌝ }
+    ensures { λ r. ⌜ r ≡ play (reads (now (tape .entry)) 0 (length (now (tape .entry)) / record-size)) 0 m (now (mem .entry)) .ended ⌝ }
+    ensures { λ r. ⌜ now (mem .exit) ≡ play (reads (now (tape .entry)) 0 (length (now (tape .entry)) / record-size)) 0 m (now (mem .entry)) .memory ⌝ }
+    ensures { λ r. ⌜ now (answers .exit) ≡ sets (now (answers .entry)) 0 (play (reads (now (tape .entry)) 0 (length (now (tape .entry)) / record-size)) 0 m (now (mem .entry)) .answers) ⌝ }
 {
     let n = tape.len() / RECORD_SIZE;
     let mut machine = m;
@@ -74,6 +85,7 @@ fn records(m: Machine, mem: &mut [u64], tape: &[u8]) -> Ended
         let at = k * RECORD_SIZE;
         let end = at + RECORD_SIZE;
         let e = one(machine, mem, &tape[at..end], k);
+        put(answers, k, e.answer);
         if e.count == k {
             return e;
         }
@@ -89,21 +101,16 @@ fn records(m: Machine, mem: &mut [u64], tape: &[u8]) -> Ended
 }
 
 // Any machine, memory and bytes may be handed in. The tests 1, 2 and 6 come first, also for an empty tape.
-pub fn run(m: Machine, mem: &mut [u64], tape: &[u8]) -> Ended
+// The answer of record k goes to place k of answers, the stopping record's too; no other place changes.
+pub fn run(m: Machine, mem: &mut [u64], tape: &[u8], answers: &mut [u8]) -> Ended
     ensures { λ r. ⌜ r ≡ run m (now (mem .entry)) (now (tape .entry)) .ended ⌝ }
     ensures { λ r. ⌜ now (mem .exit) ≡ run m (now (mem .entry)) (now (tape .entry)) .memory ⌝ }
+    ensures { λ r. ⌜ now (answers .exit) ≡ sets (now (answers .entry)) 0 (run m (now (mem .entry)) (now (tape .entry)) .answers) ⌝ }
 {
-    let len = mem.len();
-    if !machine::valid::sized(m, len) {
+    let number = machine::valid::number(m, mem.len());
+    if number != 0 {
         return Ended {
-            answer: 1,
-            count: 0,
-            machine: m,
-        };
-    }
-    if !machine::valid::valid(m, len) {
-        return Ended {
-            answer: 2,
+            answer: number,
             count: 0,
             machine: m,
         };
@@ -115,5 +122,5 @@ pub fn run(m: Machine, mem: &mut [u64], tape: &[u8]) -> Ended
             machine: m,
         };
     }
-    records(m, mem, tape)
+    records(m, mem, tape, answers)
 }

@@ -62,15 +62,10 @@ pub fn step(m: Machine, mem: &mut [u64], thread: u8, e: Event) -> Done
     ensures { λ r. ⌜ now (mem .exit) ≡ step m (now (mem .entry)) thread e .memory ⌝ }
 {
     let len = mem.len();
-    if !machine::valid::sized(m, len) {
+    let number = machine::valid::number(m, len);
+    if number != 0 {
         return Done {
-            answer: 1,
-            machine: m,
-        };
-    }
-    if !machine::valid::valid(m, len) {
-        return Done {
-            answer: 2,
+            answer: number,
             machine: m,
         };
     }

@@ -1,73 +1,128 @@
--- Laws of the text: bytes put behind bytes, that the fresh machine is valid, and one turn of the lines.
+-- Laws of the text: bytes put behind bytes, how long it is, that the fresh machine is valid, and the answers of its run.
 use mathlib.Core.Path.{_≡_, refl, sym, ap, subst, _∙_}
-use mathlib.Core.Bool.{true, false}
-use mathlib.Core.List.{List, _++_, append-assoc, append-nil}
-use Prim.Native.Nat.{ℕ, zero, suc, _+_, _-_, _≤_, _<_}
-use native.Mathlib.Nat.{le-trans, not-suc-le-zero}
+use mathlib.Core.Bool.{Bool, true, not, cond}
+use mathlib.Core.Logic.{⊎-elim}
+use mathlib.Core.List.{List, [], _∷_, _++_}
+use Prim.Native.Nat.{ℕ, suc, _+_, _*_, _/_, _%_, _≤_, _<_}
+use native.Mathlib.Nat.{add-zero}
 use native.Mathlib.Omega.{arith}
-use lib.Dec.{T, eqb, eqb→eq}
-use lib.ListN.{take, drop}
-use lib.Seq.{drop-drop}
+use borrow.Author.Tests.{lt-ltb, le-ltb, ltb-false, not-false}
+use lib.Dec.{eqb, ltb}
+use lib.ListN.{length, getD, set, take, drop, length-append}
+use lib.Seq.{drop-cons, take-append-seam, sets, sets-eq}
 use Rattle.base.specs.Below.{all-below, any-below}
+use Rattle.base.specs.Limits.{most-memory}
+use Rattle.base.proofs.Below.{fork}
 use Rattle.lines.specs.Lines as lineset
 use Rattle.transaction.specs.Transaction as transaction
-use Rattle.machine.specs.Machine.{fresh, fresh-thread}
+use Rattle.machine.specs.Machine.{fresh, fresh-thread, fresh-memory}
 use Rattle.machine.specs.Valid as valid
-use Rattle.machine.specs.declared.Machine.{Machine}
-use Rattle.tape.specs.Tape.{read}
-use Rattle.run.specs.Run.{Result, record-at, one, run-from}
-use Rattle.text.specs.Appended.{Appended}
-use Rattle.text.specs.Text.{line, end-line, answers, lines, rest}
+use Rattle.tape.specs.Tape.{record-size}
+use Rattle.run.specs.Run.{Result, run}
+use Rattle.run.specs.Steps.{Answered}
+use Rattle.run.proofs.Counts.{one-answer-each}
+use Rattle.text.specs.Inner.{Appended}
+use Rattle.text.specs.Text.{longest, decimal, line, end-line, lines, text}
 
--- what is the same from a place on is the same from any place behind it
-pub further : (a b : ℕ) (x y : List ℕ) → a ≤ b → drop a x ≡ drop a y → drop b x ≡ drop b y
-further a b x y h e =
-    let n : a + (b - a) ≡ b = omega arith in
-    ap (λ (i : ℕ). drop i x) (sym n) ∙ sym (drop-drop (b - a) a x) ∙ ap (λ (l : List ℕ). drop (b - a) l) e ∙ drop-drop (b - a) a y ∙ ap (λ (i : ℕ). drop i y) n
+-- ---- bytes in a buffer
+
+sets-append : (old : List ℕ) (at : ℕ) (x y : List ℕ) → sets (sets old at x) (at + length x) y ≡ sets old at (x ++ y)
+sets-append old at [] y = ap (λ (n : ℕ). sets old n y) (add-zero at)
+sets-append old at (b ∷ x) y =
+    let e : at + suc (length x) ≡ suc at + length x = omega arith in
+    ap (λ (n : ℕ). sets (sets old at (b ∷ x)) n y) e ∙ sets-append _ (suc at) x y
+
+-- one byte put, and those behind it
+pub put-one : (old bytes : List ℕ) (at i : ℕ) → i < length bytes
+    → sets old (at + i) (drop i bytes) ≡ sets (set old (at + i) (getD bytes i 0)) (at + (i + 1)) (drop (i + 1) bytes)
+put-one old bytes at i h =
+    let e : suc (at + i) ≡ at + (i + 1) = omega arith in
+    let f : suc i ≡ i + 1 = omega arith in
+    ap (sets old (at + i)) (drop-cons bytes i 0 h) ∙ (λ j. sets (set old (at + i) (getD bytes i 0)) (e j) (drop (f j) bytes))
+
+-- bytes put, and those that are to come behind them
+pub onward : {before after : List ℕ} {at r : ℕ} {x : List ℕ} (y : List ℕ) → Appended before after at r x
+    → (at + length (x ++ y) ≡ r + length y) × (sets before at (x ++ y) ≡ sets after r y)
+onward {before} {after} {at} {r} {x} y p =
+    (omega (arith, p .far, length-append x y), sym (sets-append before at x y) ∙ (λ j. sets (sym (p .put) j) (sym (p .far) j) y))
 
 -- bytes put behind bytes that were put
 pub joined : {before between after : List ℕ} {at r s : ℕ} {x y : List ℕ} → Appended before between at r x → Appended between after r s y
     → Appended before after at s (x ++ y)
 joined {before} {between} {after} {at} {r} {s} {x} {y} p q =
     record {
-      far = le-trans (p .far) (q .far);
-      put = q .put ∙ ap (λ (l : List ℕ). l ++ y) (p .put) ∙ append-assoc (take at before) x y;
-      kept = q .kept ∙ further r s between before (q .far) (p .kept);
+      far = q .far ∙ sym (onward y p .0);
+      put = q .put ∙ sym (onward y p .1);
     }
 
--- the fresh machine is valid over its memory
-pub fresh-valid : valid.valid fresh 4096 ≡ true
+-- the same bytes, said otherwise
+pub alias : {before after : List ℕ} {at r : ℕ} {x y : List ℕ} → x ≡ y → Appended before after at r x → Appended before after at r y
+alias {before} {after} {at} {r} e p = subst (Appended before after at r) e p
+
+-- what was put from the start on, as the text's contract says it
+pub from-start : {before after x : List ℕ} {r : ℕ} (y : List ℕ) → x ≡ y → Appended before after 0 r x → (r ≡ length y) × (after ≡ sets before 0 y)
+from-start {before} y e p = (omega (arith, p .far, ap length e), p .put ∙ ap (sets before 0) e)
+
+-- what was put at the start of a buffer is read back
+pub read-back : (old given : List ℕ) (n : ℕ) → n ≡ length given → length given ≤ length old → take n (sets old 0 given) ≡ given
+read-back old given n e h =
+    (λ j. take (e j) (sets-eq given old 0 (omega arith) j)) ∙ take-append-seam given _
+
+-- ---- how long the text is
+
+pub decimal-fits : (n : ℕ) → length (decimal n) ≤ 4
+unfolding decimal
+decimal-fits n =
+    let small : List ℕ → Type 0 = λ x. length x ≤ 4 in
+    fork small (ltb n 10) (λ e. omega arith) (λ e. fork small (ltb n 100) (λ e. omega arith) (λ e. fork small (ltb n 1000) (λ e. omega arith) (λ e. omega arith)))
+
+pub decimal-reaches : {before after : List ℕ} {at r : ℕ} (n : ℕ) → Appended before after at r (decimal n) → r ≤ at + 4
+decimal-reaches n p = omega (arith, p .far, decimal-fits n)
+
+pub line-fits : (k answer : ℕ) → length (line k answer) ≤ 10
+unfolding line
+line-fits k answer = simp length-append (omega (arith, decimal-fits k, decimal-fits answer))
+
+end-line-fits : (n : ℕ) → length (end-line n) ≤ 9
+unfolding end-line
+end-line-fits n = simp length-append (omega (arith, decimal-fits n))
+
+pub lines-fit : (k : ℕ) (given : List ℕ) → length (lines k given) ≤ 10 * length given
+unfolding lines
+lines-fit k [] = omega arith
+lines-fit k (a ∷ given) = simp length-append (omega (arith, line-fits k a, lines-fit (k + 1) given))
+
+-- the line of answer k, and those behind it
+pub lines-from : (k : ℕ) (given : List ℕ) → k < length given → lines k (drop k given) ≡ line k (getD given k 0) ++ lines (k + 1) (drop (k + 1) given)
+unfolding lines
+lines-from k given h =
+    ap (lines k) (drop-cons given k 0 h) ∙ (let e : suc k ≡ k + 1 = omega arith in λ j. line k (getD given k 0) ++ lines (k + 1) (drop (e j) given))
+
+-- ---- the run on the fresh machine
+
+-- which is valid over its memory
+pub fresh-valid : valid.valid fresh most-memory ≡ true
 unfolding all-below any-below lineset.place lineset.empty lineset.has lineset.meets transaction.empty fresh fresh-thread
     valid.sized valid.shaped valid.place-right valid.unused-zero valid.aligned valid.cr-small valid.fields-small valid.no-line valid.holds-nothing valid.state-rules valid.indices-inside valid.line-inside valid.lines-inside valid.distinct valid.logs-line valid.line-logged valid.writes-logged valid.held-right valid.thread-valid valid.clash valid.clear-of valid.apart valid.thread-right valid.threads-right valid.valid
 fresh-valid = refl
 
-pub fresh-sized : valid.sized fresh 4096 ≡ true
-unfolding fresh valid.sized
-fresh-sized = refl
+-- an answer for each record done, and one more where there is a record more
+read-of : (n : ℕ) (r : Result) → Answered n r → (cond (ltb (r .ended .count) n) (r .ended .count + 1) (r .ended .count) ≡ length (r .answers)) × (length (r .answers) ≤ n)
+read-of n r a =
+    ⊎-elim (λ w. (ap (λ (b : Bool). cond b (r .ended .count + 1) (r .ended .count)) (le-ltb _ n (omega (arith, w .0))) ∙ w .0 ∙ sym (w .1), omega (arith, w .1)))
+    (λ w. (ap (λ (b : Bool). cond b (r .ended .count + 1) (r .ended .count)) (lt-ltb _ n (w .0)) ∙ sym (w .1), omega (arith, w .0, w .1))) a
 
--- the end of the tape
-pub rest-none : (n : ℕ) (tape : List ℕ) (k : ℕ) (m : Machine) (mem : List ℕ) → n ≤ 0 → rest n tape k m mem ≡ end-line k
-unfolding rest answers lines run-from
-rest-none zero tape k m mem h = refl
-rest-none (suc n) tape k m mem h = absurd (not-suc-le-zero h)
+module _ (input : List ℕ) (p : eqb (length input % record-size) 0 ≡ true) where
+  pub answers-read : (cond (ltb (run fresh fresh-memory input .ended .count) (length input / record-size)) (run fresh fresh-memory input .ended .count + 1) (run fresh fresh-memory input .ended .count) ≡ length (run fresh fresh-memory input .answers))
+      × (length (run fresh fresh-memory input .answers) ≤ length input / record-size)
+  answers-read = read-of (length input / record-size) (run fresh fresh-memory input) (one-answer-each fresh fresh-memory input fresh-valid p)
 
-module _ (tape : List ℕ) (k : ℕ) (m : Machine) (mem : List ℕ) where
-  abbrev turn : Result
-  turn = one (read (record-at tape k)) m mem k
-
-  -- a record that is not counted: its line, and the end
-  pub rest-stops : (n : ℕ) → 0 < n → eqb (turn .ended .count) k ≡ true → rest n tape k m mem ≡ line k (turn .ended .answer) ++ end-line k
-  unfolding rest answers lines run-from
-  rest-stops zero h p = absurd (not-suc-le-zero h)
-  rest-stops (suc n) h p =
-      let e = eqb→eq (turn .ended .count) k (subst T (sym p) tt) in
-      simp p (λ j. append-nil (line k (turn .ended .answer)) j ++ end-line (e j))
-
-  -- a record that is counted: its line, and what follows
-  pub rest-goes : (n : ℕ) → 0 < n → eqb (turn .ended .count) k ≡ false
-      → rest n tape k m mem ≡ line k (turn .ended .answer) ++ rest (n - 1) tape (k + 1) (turn .ended .machine) (turn .memory)
-  unfolding rest answers lines run-from
-  rest-goes zero h p = absurd (not-suc-le-zero h)
-  rest-goes (suc n) h p =
-      let e : suc n - 1 ≡ n = omega arith in
-      simp (p, append-assoc, e)
+-- no text is longer than the longest input
+pub text-fits : (input : List ℕ) → length (text input) ≤ longest
+unfolding text
+text-fits input =
+    let small : List ℕ → Type 0 = λ x. length x ≤ longest in
+    let r = run fresh fresh-memory input in
+    fork small (ltb longest (length input)) (λ e. omega arith)
+    (λ e. fork small (not (eqb (length input % record-size) 0)) (λ f. simp length-append (omega (arith, end-line-fits 0)))
+    (λ f. simp length-append (omega (arith, ltb-false longest (length input) e, lines-fit 0 (r .answers), answers-read input (not-false _ f) .1, end-line-fits (r .ended .count)))))

@@ -1,3 +1,2 @@
-pub mod Agrees
-pub mod Appended
+pub mod Inner
 pub mod Text

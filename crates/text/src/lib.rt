@@ -1,30 +1,29 @@
 // The bytes that the program writes for the bytes of standard input (document 01, "The tape").
 ghost use mathlib.Core.Path.{_≡_};
-ghost use mathlib.Core.Bool.{true};
-ghost use Prim.Native.Nat.{_+_, _/_, _≤_};
-ghost use lib.ListN.{length, take, drop};
-ghost use Rattle.machine.specs.Machine.{fresh};
-ghost use Rattle.machine.specs.Valid.{valid};
-ghost use Rattle.tape.specs.Tape.{record-size};
-ghost use Rattle.text.specs.Appended.{Appended};
-ghost use Rattle.text.specs.Text.{longest, digit, decimal, line, end-line, rest, text};
+ghost use mathlib.Core.Bool.{cond};
+ghost use Prim.Native.Nat.{_+_, _≤_};
+ghost use lib.Dec.{ltb};
+ghost use lib.ListN.{length};
+ghost use lib.Seq.{sets};
+ghost use Rattle.text.specs.Inner.{Appended, most-records};
+ghost use Rattle.text.specs.Text.{longest, digit, decimal, line, end-line, lines, text};
+use base::MEMORY;
 use tape::RECORD_SIZE;
 
-// The longest input that is run. The text of any input fits into as many bytes. specs/Text.antt has the same number.
+// The longest input that is run; no text is longer. specs/Text.antt has the same number.
 pub const LONGEST: usize = 65536;
 
-// Doublewords of the fresh machine's memory.
-const MEMORY: usize = 4096;
+// The most records of a tape that is run.
+const RECORDS: usize = LONGEST / RECORD_SIZE;
 
-// Bytes put behind the first `at` of out; the answer is how many are there then.
+// Bytes put into out from place `at` on, as far as it has such places; the answer is the place behind them.
 fn append(out: &mut [u8], at: usize, bytes: &[u8]) -> usize
-    requires { ⌜ at + length (now bytes) ≤ length (now out) ⌝ }
-    ensures { λ r. ⌜ r ≡ at + length (now (bytes .entry)) ⌝ }
+    requires { ⌜ at + length (now bytes) ≤ longest ⌝ }
     ensures { λ r. ⌜ Appended (now (out .entry)) (now (out .exit)) at r (now (bytes .entry)) ⌝ }
 {
     let mut i = 0;
     while i < bytes.len() {
-        out[at + i] = bytes[i];
+        run::put(out, at + i, bytes[i]);
         i += 1;
     }
     at + i
@@ -39,8 +38,7 @@ fn digit(n: usize) -> u8
 
 // A number below 10,000 in decimal: indices, counts and answers are.
 fn decimal(out: &mut [u8], at: usize, n: usize) -> usize
-    requires { ⌜ at + 4 ≤ length (now out) ⌝ }
-    ensures { λ r. ⌜ r ≤ at + 4 ⌝ }
+    requires { ⌜ at + 4 ≤ longest ⌝ }
     ensures { λ r. ⌜ Appended (now (out .entry)) (now (out .exit)) at r (decimal n) ⌝ }
 {
     if n < 10 {
@@ -61,8 +59,7 @@ fn decimal(out: &mut [u8], at: usize, n: usize) -> usize
 
 // The line of a record: its index and its answer.
 fn line(out: &mut [u8], at: usize, k: usize, answer: u8) -> usize
-    requires { ⌜ at + 10 ≤ length (now out) ⌝ }
-    ensures { λ r. ⌜ r ≤ at + 10 ⌝ }
+    requires { ⌜ at + 10 ≤ longest ⌝ }
     ensures { λ r. ⌜ Appended (now (out .entry)) (now (out .exit)) at r (line k answer) ⌝ }
 {
     let index = decimal(out, at, k);
@@ -73,8 +70,7 @@ fn line(out: &mut [u8], at: usize, k: usize, answer: u8) -> usize
 
 // The last line: how many records were done.
 fn end_line(out: &mut [u8], at: usize, n: usize) -> usize
-    requires { ⌜ at + 9 ≤ length (now out) ⌝ }
-    ensures { λ r. ⌜ r ≤ at + 9 ⌝ }
+    requires { ⌜ at + 9 ≤ longest ⌝ }
     ensures { λ r. ⌜ Appended (now (out .entry)) (now (out .exit)) at r (end-line n) ⌝ }
 {
     let word = append(out, at, b"end ");
@@ -82,40 +78,35 @@ fn end_line(out: &mut [u8], at: usize, n: usize) -> usize
     append(out, number, b"\n")
 }
 
-// The records of a tape on a fresh machine, one at a time, each with its line, and the end line. Memory is lent, as to any run.
-fn records(mem: &mut [u64], tape: &[u8], out: &mut [u8]) -> usize
-    requires { ⌜ valid fresh (length (now mem)) ≡ true ⌝ }
-    requires { ⌜ length (now tape) ≤ longest ⌝ }
-    requires { ⌜ longest ≤ length (now out) ⌝ }
-    ensures { λ r. ⌜ r ≤ longest ⌝ }
-    ensures { λ r. ⌜ Appended (now (out .entry)) (now (out .exit)) 0 r (rest (length (now (tape .entry)) / record-size) (now (tape .entry)) 0 fresh (now (mem .entry))) ⌝ }
+// A line for each answer.
+fn lines(out: &mut [u8], answers: &[u8]) -> usize
+    requires { ⌜ length (now answers) ≤ most-records ⌝ }
+    ensures { λ r. ⌜ Appended (now (out .entry)) (now (out .exit)) 0 r (lines 0 (now (answers .entry))) ⌝ }
 {
-    let n = tape.len() / RECORD_SIZE;
-    let mut machine = machine::fresh();
-    let mut k: usize = 0;
     let mut at: usize = 0;
-    while k < n {
-        let start = k * RECORD_SIZE;
-        let end = start + RECORD_SIZE;
-        let e = run::one(machine, mem, &tape[start..end], k);
-        at = line(out, at, k, e.answer);
-        if e.count == k {
-            return end_line(out, at, k);
-        }
-        let next = e.machine;
-        machine = next;
+    let mut k: usize = 0;
+    while k < answers.len() {
+        at = line(out, at, k, answers[k]);
         k += 1;
     }
-    end_line(out, at, n)
+    at
+}
+
+// How many of n records were read, where `count` were done: the one that stopped the run too.
+fn read_of(count: usize, n: usize) -> usize
+    ensures { λ r. ⌜ r ≡ cond (ltb count n) (count + 1) count ⌝ }
+{
+    if count < n {
+        return count + 1;
+    }
+    count
 }
 
 // Input that is too long is not run; a ragged one has no record done; any other is run on a fresh machine with fresh memory.
-// Of out only as many bytes are written as the answer says.
+// Any buffer may be lent: what has no place in it is left out, and what stands behind the text stays.
 pub fn text(input: &[u8], out: &mut [u8]) -> usize
-    requires { ⌜ longest ≤ length (now out) ⌝ }
-    ensures { λ r. ⌜ r ≤ length (now (out .exit)) ⌝ }
-    ensures { λ r. ⌜ take r (now (out .exit)) ≡ text (now (input .entry)) ⌝ }
-    ensures { λ r. ⌜ drop r (now (out .exit)) ≡ drop r (now (out .entry)) ⌝ }
+    ensures { λ r. ⌜ r ≡ length (text (now (input .entry))) ⌝ }
+    ensures { λ r. ⌜ now (out .exit) ≡ sets (now (out .entry)) 0 (text (now (input .entry))) ⌝ }
 {
     if input.len() > LONGEST {
         return append(out, 0, b"long\n");
@@ -125,5 +116,9 @@ pub fn text(input: &[u8], out: &mut [u8]) -> usize
         return end_line(out, at, 0);
     }
     let mut memory = [0; MEMORY];
-    records(&mut memory, input, out)
+    let mut answers = [0u8; RECORDS];
+    let ended = run::run(machine::fresh(), &mut memory, input, &mut answers);
+    let n = read_of(ended.count, input.len() / RECORD_SIZE);
+    let at = lines(out, &answers[..n]);
+    end_line(out, at, ended.count)
 }

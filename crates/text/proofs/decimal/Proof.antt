@@ -1,8 +1,7 @@
 -- `text::decimal` meets its contract: as many digits as the number has.
-use mathlib.Core.Path.{_∙_}
 use borrow.Author.Tests.{lt-ltb, le-ltb}
-use native.Mathlib.Omega.{arith}
 use Rattle.text.specs.Text.{decimal}
+use Rattle.text.proofs.Laws.{alias}
 use borrow.Author.Needs.{needs}
 use Rattle.text.proofs.decimal.Statement.{statement}
 use Rattle.text.proofs.decimal.Tie as tie
@@ -24,7 +23,7 @@ unfolding decimal
 returns c =
     let p = c .before .before in
     let f = p .before .before .before .before in
-    (omega (arith, p .append .ensures .0), record { far = p .append .ensures .1 .far; put = p .append .ensures .1 .put ∙ simp (p .before .before .digit .ensures, lt-ltb _ _ (f .if1 .taken)); kept = p .append .ensures .1 .kept })
+    alias (simp (p .before .before .digit .ensures, lt-ltb _ _ (f .if1 .taken))) (p .append .ensures)
 
 digit-requires-2 : tie.Need-digit-requires-2
 digit-requires-2 c κs = search needs
@@ -46,7 +45,7 @@ unfolding decimal
 returns-2 c =
     let p = c .before .before in
     let f = p .before .before .before .before .before in
-    (omega (arith, p .append2 .ensures .0), record { far = p .append2 .ensures .1 .far; put = p .append2 .ensures .1 .put ∙ simp (p .before .before .digit3 .ensures, p .before .before .before .digit2 .ensures, lt-ltb _ _ (f .if2 .taken), le-ltb _ _ (f .before .if1 .left)); kept = p .append2 .ensures .1 .kept })
+    alias (simp (p .before .before .digit3 .ensures, p .before .before .before .digit2 .ensures, lt-ltb _ _ (f .if2 .taken), le-ltb _ _ (f .before .if1 .left))) (p .append2 .ensures)
 
 digit-requires-4 : tie.Need-digit-requires-4
 digit-requires-4 c κs = search needs
@@ -71,7 +70,7 @@ unfolding decimal
 returns-3 c =
     let p = c .before .before in
     let f = p .before .before .before .before .before .before in
-    (omega (arith, p .append3 .ensures .0), record { far = p .append3 .ensures .1 .far; put = p .append3 .ensures .1 .put ∙ simp (p .before .before .digit6 .ensures, p .before .before .before .digit5 .ensures, p .before .before .before .before .digit4 .ensures, lt-ltb _ _ (f .if3 .taken), le-ltb _ _ (f .before .if2 .left), le-ltb _ _ (f .before .before .if1 .left)); kept = p .append3 .ensures .1 .kept })
+    alias (simp (p .before .before .digit6 .ensures, p .before .before .before .digit5 .ensures, p .before .before .before .before .digit4 .ensures, lt-ltb _ _ (f .if3 .taken), le-ltb _ _ (f .before .if2 .left), le-ltb _ _ (f .before .before .if1 .left))) (p .append3 .ensures)
 
 digit-requires-7 : tie.Need-digit-requires-7
 digit-requires-7 c κs = search needs
@@ -99,7 +98,7 @@ unfolding decimal
 returns-4 c =
     let p = c .before .before in
     let f = p .before .before .before .before .before .before .before in
-    (omega (arith, p .append4 .ensures .0), record { far = p .append4 .ensures .1 .far; put = p .append4 .ensures .1 .put ∙ simp (p .before .before .digit10 .ensures, p .before .before .before .digit9 .ensures, p .before .before .before .before .digit8 .ensures, p .before .before .before .before .before .digit7 .ensures, le-ltb _ _ (f .if3 .left), le-ltb _ _ (f .before .if2 .left), le-ltb _ _ (f .before .before .if1 .left)); kept = p .append4 .ensures .1 .kept })
+    alias (simp (p .before .before .digit10 .ensures, p .before .before .before .digit9 .ensures, p .before .before .before .before .digit8 .ensures, p .before .before .before .before .before .digit7 .ensures, le-ltb _ _ (f .if3 .left), le-ltb _ _ (f .before .if2 .left), le-ltb _ _ (f .before .before .if1 .left))) (p .append4 .ensures)
 
 pub decimal-spec : {M : Type 1} → statement M
 decimal-spec =

@@ -1,7 +1,7 @@
 -- `text::end_line` meets its contract: the word, the count and the line's end.
 use native.Mathlib.Omega.{arith}
 use Rattle.text.specs.Text.{end-line}
-use Rattle.text.proofs.Laws.{joined}
+use Rattle.text.proofs.Laws.{joined, decimal-reaches}
 use borrow.Author.Needs.{needs}
 use Rattle.text.proofs.end_line.Statement.{statement}
 use Rattle.text.proofs.end_line.Tie as tie
@@ -19,7 +19,9 @@ slice-aggregate-append-2 : tie.Need-slice-aggregate-append-2
 slice-aggregate-append-2 c = search needs
 
 append-requires-2 : tie.Need-append-requires-2
-append-requires-2 c κs = search needs
+append-requires-2 c κs =
+    let n = c .before .before .before .before in
+    omega (arith, decimal-reaches _ (n .decimal .ensures), n .before .before .before .before .append .ensures .far)
 
 same-length : tie.Need-same-length
 same-length c = search needs
@@ -29,10 +31,8 @@ unfolding end-line
 returns c =
     let d = c .before .before in
     let n = d .before .before .before .before .before in
-    let w = n .before .before .before .before in (
-      omega (arith, d .append2 .ensures .0, n .decimal .ensures .0, w .append .ensures .0),
-      joined (joined (w .append .ensures .1) (n .decimal .ensures .1)) (d .append2 .ensures .1),
-    )
+    let w = n .before .before .before .before in
+    joined (joined (w .append .ensures) (n .decimal .ensures)) (d .append2 .ensures)
 
 pub end-line-spec : {M : Type 1} → statement M
 end-line-spec =

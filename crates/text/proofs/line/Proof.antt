@@ -1,7 +1,7 @@
 -- `text::line` meets its contract: the index, a space, the answer and the line's end.
 use native.Mathlib.Omega.{arith}
 use Rattle.text.specs.Text.{line}
-use Rattle.text.proofs.Laws.{joined}
+use Rattle.text.proofs.Laws.{joined, decimal-reaches}
 use borrow.Author.Needs.{needs}
 use Rattle.text.proofs.line.Statement.{statement}
 use Rattle.text.proofs.line.Tie as tie
@@ -13,16 +13,21 @@ slice-aggregate-append : tie.Need-slice-aggregate-append
 slice-aggregate-append c = search needs
 
 append-requires : tie.Need-append-requires
-append-requires c κs = search needs
+append-requires c κs = omega (arith, decimal-reaches _ (c .before .before .before .before .decimal .ensures))
 
 decimal-requires-2 : tie.Need-decimal-requires-2
-decimal-requires-2 c κs = search needs
+decimal-requires-2 c κs =
+    let s = c .before .before .before in
+    omega (arith, s .append .ensures .far, decimal-reaches _ (s .before .before .before .before .before .decimal .ensures))
 
 slice-aggregate-append-2 : tie.Need-slice-aggregate-append-2
 slice-aggregate-append-2 c = search needs
 
 append-requires-2 : tie.Need-append-requires-2
-append-requires-2 c κs = search needs
+append-requires-2 c κs =
+    let n = c .before .before .before .before in
+    let s = n .before .before .before .before in
+    omega (arith, decimal-reaches _ (n .decimal2 .ensures), s .append .ensures .far, decimal-reaches _ (s .before .before .before .before .before .decimal .ensures))
 
 same-length : tie.Need-same-length
 same-length c = search needs
@@ -33,10 +38,8 @@ returns c =
     let d = c .before .before in
     let n = d .before .before .before .before .before in
     let s = n .before .before .before .before in
-    let i = s .before .before .before .before .before in (
-      omega (arith, d .append2 .ensures .0, n .decimal2 .ensures .0, s .append .ensures .0, i .decimal .ensures .0),
-      joined (joined (joined (i .decimal .ensures .1) (s .append .ensures .1)) (n .decimal2 .ensures .1)) (d .append2 .ensures .1),
-    )
+    let i = s .before .before .before .before .before in
+    joined (joined (joined (i .decimal .ensures) (s .append .ensures)) (n .decimal2 .ensures)) (d .append2 .ensures)
 
 pub line-spec : {M : Type 1} → statement M
 line-spec =

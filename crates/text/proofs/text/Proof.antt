@@ -1,13 +1,68 @@
 -- `text::text` meets its contract: too long, ragged, or run.
-use mathlib.Core.Path.{_∙_}
+use mathlib.Core.Path.{_≡_, sym, ap, _∙_}
+use mathlib.Core.Bool.{cond}
+use mathlib.Core.List.{List}
+use Prim.Native.Nat.{ℕ, _+_, _/_, _≤_}
 use native.Mathlib.Omega.{arith}
-use borrow.Author.Tests.{lt-ltb, le-ltb, eq-eqb, ne-eqb}
-use Rattle.run.specs.Run.{run}
-use Rattle.text.specs.Text.{rest, text}
-use Rattle.text.proofs.Laws.{joined, fresh-sized, fresh-valid}
 use borrow.Author.Needs.{needs}
+use borrow.Author.Tests.{lt-ltb, le-ltb, eq-eqb, ne-eqb}
+use lib.Dec.{ltb}
+use lib.ListN.{length, take, replicate}
+use lib.Seq.{sets}
+use Rattle.machine.specs.Machine.{fresh, fresh-memory}
+use Rattle.machine.specs.declared.Machine.{Machine}
+use Rattle.run.specs.Run.{Result, run}
+use Rattle.run.specs.declared.Ended.{Ended}
+use Rattle.text.specs.Inner.{Appended}
+use Rattle.text.specs.Text.{end-line, lines, text}
+use Rattle.text.proofs.Laws.{alias, joined, from-start, read-back, lines-fit, answers-read}
 use Rattle.text.proofs.text.Statement.{statement}
 use Rattle.text.proofs.text.Tie as tie
+
+abbrev bytes : tie.Else2 → List ℕ
+bytes c = c .before .before .before .before .args .input .now
+
+abbrev whole : tie.Else2 → Result
+whole c = run fresh fresh-memory (bytes c)
+
+abbrev from-run : tie.After-run → tie.Else2
+from-run u = u .before .before .before .before
+
+abbrev from-read : tie.After-read-of → tie.After-run
+from-read d = d .before .before .before
+
+-- what the run leaves is what the definition says of the fresh machine
+ran : (u : tie.After-run) → u .run .result ≡ whole (from-run u) .ended
+ran u = u .run .ensures .0 ∙ ap (λ (m : Machine). run m fresh-memory (bytes (from-run u)) .ended) (u .before .before .before .fresh .ensures)
+
+ran-answers : (u : tie.After-run) → u .run .last .1 .1 .1 .0 ≡ sets (replicate 4096 0) 0 (whole (from-run u) .answers)
+ran-answers u =
+    u .run .ensures .1 .1
+    ∙ ap (λ (m : Machine). sets (replicate 4096 0) 0 (run m fresh-memory (bytes (from-run u)) .answers)) (u .before .before .before .fresh .ensures)
+
+-- its answers fit into their buffer
+few : (c : tie.Else2) → length (whole c .answers) ≤ 4096
+few c = omega (arith, c .before .if1 .left, answers-read (bytes c) (eq-eqb _ _ (c .if2 .left)) .1)
+
+-- as many are read back as there are
+all-read : (d : tie.After-read-of) → d .read-of .result ≡ length (whole (from-run (from-read d)) .answers)
+all-read d =
+    let c = from-run (from-read d) in
+    let n = length (bytes c) / 16 in
+    d .read-of .ensures
+    ∙ ap (λ (e : Ended). cond (ltb (e .count) n) (e .count + 1) (e .count)) (ran (from-read d))
+    ∙ answers-read (bytes c) (eq-eqb _ _ (c .if2 .left)) .0
+
+given-back : (d : tie.After-read-of) → take (d .read-of .result) (from-read d .run .last .1 .1 .1 .0) ≡ whole (from-run (from-read d)) .answers
+given-back d =
+    ap (take (d .read-of .result)) (ran-answers (from-read d))
+    ∙ read-back (replicate 4096 0) _ (d .read-of .result) (all-read d) (few (from-run (from-read d)))
+
+-- and each has its line
+lined : (l : tie.After-lines)
+    → let c = from-run (from-read (l .before .before .before)) in
+    Appended (c .before .before .before .before .args .out .now) (l .lines .last .0) 0 (l .lines .result) (lines 0 (whole c .answers))
+lined l = alias (ap (lines 0) (given-back (l .before .before .before))) (l .lines .ensures)
 
 slice-aggregate-append : tie.Need-slice-aggregate-append
 slice-aggregate-append c = search needs
@@ -23,7 +78,7 @@ unfolding text
 returns c =
     let p = c .before .before in
     let f = p .before .before .before in
-    (omega (arith, p .append .ensures .0, p .append .kept), (p .append .ensures .1 .put ∙ simp (lt-ltb _ _ (f .if1 .taken)), p .append .ensures .1 .kept))
+    from-start (text (f .before .before .before .args .input .now)) (simp (lt-ltb _ _ (f .if1 .taken))) (p .append .ensures)
 
 slice-aggregate-append-2 : tie.Need-slice-aggregate-append-2
 slice-aggregate-append-2 c = search needs
@@ -43,24 +98,51 @@ returns-2 c =
     let p = c .before .before in
     let a = p .before .before .before .before in
     let f = a .before .before .before in
-    let j = joined (a .append2 .ensures .1) (p .end-line .ensures .1) in
-    (omega (arith, p .end-line .ensures .0, a .append2 .ensures .0), (j .put ∙ simp (ne-eqb _ _ (f .if2 .taken), le-ltb _ _ (f .before .if1 .left)), j .kept))
+    from-start (text (f .before .before .before .before .args .input .now)) (simp (ne-eqb _ _ (f .if2 .taken), le-ltb _ _ (f .before .if1 .left)))
+    (joined (a .append2 .ensures) (p .end-line .ensures))
 
-slice-aggregate-records : tie.Need-slice-aggregate-records
-slice-aggregate-records c = search needs
+fresh-requires : tie.Need-fresh-requires
+fresh-requires c κs = search needs
 
-records-requires : tie.Need-records-requires
-records-requires c κs = (fresh-valid, (omega arith, omega arith))
+slice-aggregate-run : tie.Need-slice-aggregate-run
+slice-aggregate-run c = search needs
+
+slice-aggregate-run-2 : tie.Need-slice-aggregate-run-2
+slice-aggregate-run-2 c = search needs
+
+run-requires : tie.Need-run-requires
+run-requires c κs = search needs
+
+read-of-requires : tie.Need-read-of-requires
+read-of-requires c κs = search needs
+
+array-share-prefix-answers : tie.Need-array-share-prefix-answers
+array-share-prefix-answers c = omega (arith, all-read (c .before), few (from-run (from-read (c .before))))
+
+slice-aggregate-lines : tie.Need-slice-aggregate-lines
+slice-aggregate-lines c = all-read (c .before .before) ∙ sym (ap length (given-back (c .before .before)))
+
+lines-requires : tie.Need-lines-requires
+lines-requires c κs = omega (arith, ap length (given-back (c .before .before)), few (from-run (from-read (c .before .before))))
+
+end-line-requires-2 : tie.Need-end-line-requires-2
+end-line-requires-2 c κs =
+    let l = c .before .before .before in
+    let r = from-run (from-read (l .before .before .before)) in
+    omega (arith, lined l .far, lines-fit 0 (whole r .answers), few r)
 
 same-length-3 : tie.Need-same-length-3
 same-length-3 c = search needs
 
 returns-3 : tie.Need-returns-3
-unfolding text rest run
+unfolding text
 returns-3 c =
-    let p = c .before .before .before in
-    let f = p .before .before .before in
-    (omega (arith, p .records .ensures .0), (p .records .ensures .1 .put ∙ simp (eq-eqb _ _ (f .if2 .left), le-ltb _ _ (f .before .if1 .left), fresh-sized, fresh-valid), p .records .ensures .1 .kept))
+    let e = c .before .before in
+    let l = e .before .before .before .before in
+    let u = from-read (l .before .before .before) in
+    let f = from-run u in
+    from-start (text (bytes f)) (simp (eq-eqb _ _ (f .if2 .left), le-ltb _ _ (f .before .if1 .left)))
+    (joined (lined l) (alias (ap (λ (x : Ended). end-line (x .count)) (ran u)) (e .end-line2 .ensures)))
 
 pub text-spec : {M : Type 1} → statement M
 text-spec =
@@ -75,7 +157,14 @@ text-spec =
     end-line-requires
     same-length-2
     returns-2
-    slice-aggregate-records
-    records-requires
+    fresh-requires
+    slice-aggregate-run
+    slice-aggregate-run-2
+    run-requires
+    read-of-requires
+    array-share-prefix-answers
+    slice-aggregate-lines
+    lines-requires
+    end-line-requires-2
     same-length-3
     returns-3)

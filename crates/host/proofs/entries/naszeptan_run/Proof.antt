@@ -21,6 +21,12 @@ returns c =
 machine-of-requires : tie.Need-machine-of-requires
 machine-of-requires c κs = search needs
 
+array-borrow-prefix-none : tie.Need-array-borrow-prefix-none
+array-borrow-prefix-none c = search needs
+
+slice-aggregate-run : tie.Need-slice-aggregate-run
+slice-aggregate-run c = search needs
+
 run-requires : tie.Need-run-requires
 run-requires c κs = search needs
 
@@ -33,11 +39,11 @@ same-length c = search needs
 returns-2 : tie.Need-returns-2
 unfolding run
 returns-2 c =
-    let r = c .before .before .before in
-    let m = r .before .before in
+    let r = c .before .before .before .before in
+    let m = r .before .before .before in
     let t = m .before in
     let f = flag-true (t .before .right .ensures) (t .if1 .left) in
-    (simp (c .raw-machine .ensures, r .run .ensures .0, m .machine-of .ensures, f), simp (r .run .ensures .1, m .machine-of .ensures, f))
+    (simp (c .raw-machine .ensures, r .run .ensures .0, m .machine-of .ensures, f), simp (r .run .ensures .1 .0, m .machine-of .ensures, f))
 
 pub naszeptan-run-spec : {M : Type 1} → statement M
 naszeptan-run-spec =
@@ -47,6 +53,8 @@ naszeptan-run-spec =
     naszeptan-valid-requires
     returns
     machine-of-requires
+    array-borrow-prefix-none
+    slice-aggregate-run
     run-requires
     raw-machine-requires
     same-length

@@ -11,14 +11,14 @@ right-requires c κs = search needs
 machine-of-requires : tie.Need-machine-of-requires
 machine-of-requires c κs = search needs
 
-machine-number-requires : tie.Need-machine-number-requires
-machine-number-requires c κs = search needs
+number-requires : tie.Need-number-requires
+number-requires c κs = search needs
 
 returns : tie.Need-returns
 unfolding number
 returns c =
     let t = c .before .before in
-    simp (c .machine-number .ensures, c .before .machine-of .ensures, sym (t .before .right .ensures) ∙ t .if1 .taken)
+    simp (c .number .ensures, c .before .machine-of .ensures, sym (t .before .right .ensures) ∙ t .if1 .taken)
 
 machine-of-requires-2 : tie.Need-machine-of-requires-2
 machine-of-requires-2 c κs = search needs
@@ -46,7 +46,7 @@ naszeptan-valid-spec =
     (tie.spec
     right-requires
     machine-of-requires
-    machine-number-requires
+    number-requires
     returns
     machine-of-requires-2
     sized-requires

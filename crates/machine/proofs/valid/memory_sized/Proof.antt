@@ -1,5 +1,4 @@
 -- `machine::valid::memory_sized` meets its contract: its tests are the definition's.
-use borrow.Author.Needs.{needs}
 use borrow.Author.Tests.{eq-eqb, le-leb, lt-leb, ne-eqb}
 use Rattle.machine.proofs.valid.memory_sized.Statement.{statement}
 use Rattle.machine.proofs.valid.memory_sized.Tie as tie
@@ -10,11 +9,8 @@ returns c = simp (ne-eqb _ _ (c .if1 .taken))
 returns-2 : tie.Need-returns-2
 returns-2 c = simp (lt-leb _ _ (c .if2 .taken), eq-eqb _ _ (c .before .if1 .left))
 
-mul-result : tie.Need-mul-result
-mul-result c = search needs
-
 returns-3 : tie.Need-returns-3
 returns-3 c = simp (le-leb _ _ (c .if2 .left), eq-eqb _ _ (c .before .if1 .left))
 
 pub memory-sized-spec : {M : Type 1} → statement M
-memory-sized-spec = tie.close (tie.spec returns returns-2 mul-result returns-3)
+memory-sized-spec = tie.close (tie.spec returns returns-2 returns-3)
