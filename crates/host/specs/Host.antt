@@ -7,9 +7,9 @@ use lib.ListN.{length}
 use Rattle.machine.specs.Valid.{sized, valid}
 use Rattle.step.specs.Step as events
 use Rattle.machine.specs.declared.Machine.{Machine}
-use Rattle.tape.specs.Fields.{fields, fields-of}
+use Rattle.event.specs.Event.{fields, fields-of}
+use Rattle.event.specs.declared.Fields.{Fields}
 use Rattle.tape.specs.Tape as tape
-use Rattle.tape.specs.declared.Fields.{Fields}
 use Rattle.tape.specs.declared.Read.{Read}
 use Rattle.tape.specs.declared.Read.the-variants.{Record, Refused}
 use Rattle.run.specs.Run as tape-run

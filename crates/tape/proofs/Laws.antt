@@ -1,10 +1,13 @@
--- What the reader's tests tell: its first two, and its match on the kind.
-use mathlib.Core.Path.{_≡_, _∙_}
+-- What the reader's tests tell: its first two, and its match on the kind; and bytes laid over a buffer's start.
+use mathlib.Core.Path.{_≡_, sym, ap, _∙_}
 use mathlib.Core.Bool.{Bool, _&&_}
-use mathlib.Core.List.{List}
-use Prim.Native.Nat.{ℕ, _<_, _≤_}
+use mathlib.Core.List.{List, _++_}
+use Prim.Native.Nat.{ℕ, _+_, _<_, _≤_}
 use native.Mathlib.Omega.{arith}
-use lib.ListN.{length}
+use native.Mathlib.Nat.{zero-add}
+use native.Mathlib.Numerals.{add-one}
+use lib.ListN.{length, take, drop, getD, set}
+use lib.Seq.{take-length, sets, sets-eq, paste-suc}
 use borrow.Author.Tests.{le-leb, lt-leb, eq-eqb}
 use Rattle.event.specs.Rows.{rows, kind-right, row}
 use Rattle.event.specs.declared.Fields.{Fields}
@@ -30,3 +33,14 @@ low f zero h = simp (lt-leb 1 (f .kind) h)
 pub high : (f : Fields) (zero : Bool) → 17 < f .kind → Refused 8 ≡ of-kind f zero
 unfolding rows kind-right of-kind
 high f zero h = let l : 1 ≤ f .kind = omega arith in simp (le-leb 1 (f .kind) l, lt-leb (f .kind) 17 h)
+
+-- bytes laid over a buffer's start: the first i of them, one more, all
+abbrev pub over : List ℕ → List ℕ → ℕ → List ℕ
+over buf cs i = take i cs ++ drop i buf
+
+pub over-more : (buf cs : List ℕ) (i : ℕ) → i < length buf → i < length cs → set (over buf cs i) i (getD cs i 0) ≡ over buf cs (i + 1)
+over-more buf cs i hb hc = simp (zero-add, ← add-one) at (paste-suc buf 0 cs i 0 (omega arith) hc)
+
+pub over-all : (buf cs : List ℕ) → length cs ≤ length buf → sets buf 0 cs ≡ over buf cs (length cs)
+over-all buf cs h =
+    simp zero-add at (sets-eq cs buf 0 (omega arith)) ∙ ap (λ (x : List ℕ). x ++ drop (length cs) buf) (sym (take-length cs))

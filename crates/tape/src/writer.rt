@@ -9,29 +9,42 @@ use crate::RECORD_SIZE;
 use event::Event;
 use event::Fields;
 
-// The record in the buffer's first bytes.
-fn put(buf: &mut [u8], f: Fields)
-    requires { ⌜ record-size ≤ length (now buf) ⌝ }
-    ensures { λ r. ⌜ now (buf .exit) ≡ sets (now (buf .entry)) 0 (bytes f) ⌝ }
+// The record's bytes.
+fn bytes(f: Fields) -> [u8; 16]
+    ensures { λ r. ⌜ r ≡ bytes f ⌝ }
 {
     let index = f.index;
     let si = f.si;
-    buf[0] = FIRST_BYTE;
-    buf[1] = f.kind;
-    buf[2] = f.thread;
-    buf[3] = f.x;
-    buf[4] = f.ra;
-    buf[5] = f.rb;
-    buf[6] = f.flags;
-    buf[7] = 0;
-    buf[8] = (index / 256 / 256 / 256 % 256) as u8;
-    buf[9] = (index / 256 / 256 % 256) as u8;
-    buf[10] = (index / 256 % 256) as u8;
-    buf[11] = (index % 256) as u8;
-    buf[12] = (si / 256 % 256) as u8;
-    buf[13] = (si % 256) as u8;
-    buf[14] = 0;
-    buf[15] = 0;
+    [
+        FIRST_BYTE,
+        f.kind,
+        f.thread,
+        f.x,
+        f.ra,
+        f.rb,
+        f.flags,
+        0,
+        (index / 256 / 256 / 256 % 256) as u8,
+        (index / 256 / 256 % 256) as u8,
+        (index / 256 % 256) as u8,
+        (index % 256) as u8,
+        (si / 256 % 256) as u8,
+        (si % 256) as u8,
+        0,
+        0,
+    ]
+}
+
+// A record's bytes at the buffer's start, whatever its layout.
+fn put(buf: &mut [u8], src: &[u8])
+    requires { ⌜ length (now src) ≤ length (now buf) ⌝ }
+    ensures { λ r. ⌜ now (buf .exit) ≡ sets (now (buf .entry)) 0 (now (src .entry)) ⌝ }
+{
+    let mut i = 0;
+    while i < src.len() {
+        buf[i] = src[i];
+        i += 1;
+    }
 }
 
 // A lone record. Refused by 10 alone, with the buffer unchanged; only the first 16 bytes are touched.
@@ -42,7 +55,7 @@ pub fn write(thread: u8, e: Event, buf: &mut [u8]) -> u8
     if buf.len() < RECORD_SIZE {
         return 10;
     }
-    let f = event::fields_of(thread, e);
-    put(buf, f);
+    let record = bytes(event::fields_of(thread, e));
+    put(buf, &record);
     0
 }
