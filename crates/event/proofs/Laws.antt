@@ -5,7 +5,7 @@ use Prim.Native.Nat.{ℕ, _<_}
 use borrow.Author.Tests.{ltb-true}
 use lib.Dec.{ltb}
 use Rattle.base.proofs.Below.{and-left, and-right}
-use Rattle.event.specs.Rows.{rows, row, in-range, fields-right}
+use Rattle.event.specs.Rows.{row, in-range, fields-right}
 use Rattle.event.specs.Event.{fields-of, kind, operands-right}
 use Rattle.event.specs.declared.Event.{Event}
 use Rattle.event.specs.declared.Event.the-variants.{Tabort, Tabortwc, Tabortdc, Tcheck, Treclaim, Mtspr, Mfspr, Ld, Std, Addi}
@@ -33,41 +33,41 @@ unfolding operands-right
 tests e len p = right (row (kind e)) (fields-of 0 e) len p
 
 pub tabort-register : (ra len : ℕ) → operands-right (Tabort ra) len ≡ true → ra < 32
-unfolding rows row kind fields-of
+unfolding row kind
 tabort-register ra len p = ltb-true ra 32 (tests _ len p .ra)
 
 pub tabortwc-registers : (to ra rb len : ℕ) → operands-right (Tabortwc to ra rb) len ≡ true → (ra < 32) × (rb < 32)
-unfolding rows row kind fields-of
+unfolding row kind
 tabortwc-registers to ra rb len p = let t = tests _ len p in (ltb-true ra 32 (t .ra), ltb-true rb 32 (t .rb))
 
 pub tabortdc-registers : (to ra rb len : ℕ) → operands-right (Tabortdc to ra rb) len ≡ true → (ra < 32) × (rb < 32)
-unfolding rows row kind fields-of
+unfolding row kind
 tabortdc-registers to ra rb len p = let t = tests _ len p in (ltb-true ra 32 (t .ra), ltb-true rb 32 (t .rb))
 
 pub tcheck-field : (bf len : ℕ) → operands-right (Tcheck bf) len ≡ true → bf < 8
-unfolding rows row kind fields-of
+unfolding row kind
 tcheck-field bf len p = ltb-true bf 8 (tests _ len p .x)
 
 pub treclaim-register : (ra len : ℕ) → operands-right (Treclaim ra) len ≡ true → ra < 32
-unfolding rows row kind fields-of
+unfolding row kind
 treclaim-register ra len p = ltb-true ra 32 (tests _ len p .ra)
 
 pub mtspr-register : (spr ra len : ℕ) → operands-right (Mtspr spr ra) len ≡ true → ra < 32
-unfolding rows row kind fields-of
+unfolding row kind
 mtspr-register spr ra len p = ltb-true ra 32 (tests _ len p .ra)
 
 pub mfspr-register : (rt spr len : ℕ) → operands-right (Mfspr rt spr) len ≡ true → rt < 32
-unfolding rows row kind fields-of
+unfolding row kind
 mfspr-register rt spr len p = ltb-true rt 32 (tests _ len p .ra)
 
 pub ld-in : (rt i len : ℕ) → operands-right (Ld rt i) len ≡ true → (rt < 32) × (i < len)
-unfolding rows row kind fields-of
+unfolding row kind
 ld-in rt i len p = let t = tests _ len p in (ltb-true rt 32 (t .x), ltb-true i len (t .index))
 
 pub std-in : (ra i len : ℕ) → operands-right (Std ra i) len ≡ true → (ra < 32) × (i < len)
-unfolding rows row kind fields-of
+unfolding row kind
 std-in ra i len p = let t = tests _ len p in (ltb-true ra 32 (t .ra), ltb-true i len (t .index))
 
 pub addi-registers : (rt ra si len : ℕ) → operands-right (Addi rt ra si) len ≡ true → (rt < 32) × (ra < 32)
-unfolding rows row kind fields-of
+unfolding row kind
 addi-registers rt ra si len p = let t = tests _ len p in (ltb-true rt 32 (t .x), ltb-true ra 32 (t .ra))

@@ -31,6 +31,6 @@ low zero p h = p
 low (suc k) p h = absurd (omega arith)
 
 pub high : (k : ℕ) {r : Row} → r ≡ no-row → 17 < k → r ≡ row k
-unfolding rows row
+unfolding row
 high zero p h = absurd (omega arith)
 high (suc k) p h = p ∙ sym (List·getD-eq-default rows no-row (le-of-suc-le-suc h))

@@ -70,15 +70,19 @@ event-of f =
 
 -- the number of an event's kind
 unfoldable pub kind : Event → ℕ
+unfolding fields-of
 kind e = fields-of 0 e .kind
 
 -- number 4: the operands are right over a memory of len doublewords
 unfoldable pub operands-right : Event → ℕ → Bool
+unfolding row kind
 operands-right e len = fields-right (row (kind e)) (fields-of 0 e) len
 
 -- numbers 11 and 12
 unfoldable pub tm-instruction : Event → Bool
+unfolding row kind
 tm-instruction e = holds (row (kind e) .tm) (fields-of 0 e .x)
 
 unfoldable pub privileged : Event → Bool
+unfolding row kind
 privileged e = holds (row (kind e) .privileged) (fields-of 0 e .x)

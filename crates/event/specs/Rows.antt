@@ -40,6 +40,7 @@ rows =
 
 -- number 8: the kinds are those that have a row
 unfoldable pub kind-right : ℕ → Bool
+unfolding rows
 kind-right k = leb 1 k && leb k (length rows)
 
 -- a number that is no kind uses nothing
@@ -47,6 +48,7 @@ abbrev pub no-row : Row
 no-row = line No No No 0 false false Never Never
 
 unfoldable pub row : ℕ → Row
+unfolding rows
 row zero = no-row
 row (suc k) = getD rows k no-row
 

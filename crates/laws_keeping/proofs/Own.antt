@@ -17,7 +17,7 @@ use Rattle.transaction.proofs.Laws.{commit-length}
 use Rattle.event.specs.Event.{kind, operands-right}
 use Rattle.event.specs.declared.Event.{Event}
 use Rattle.event.specs.declared.Event.the-variants.{Tbegin, Tend, Tabort, Tabortwc, Tabortdc, Tsr, Tcheck, Treclaim, Trechkpt, Mtspr, Mfspr, Ld, Std, Addi, Disallowed, Interrupt, Host}
-use Rattle.event.proofs.Laws.{access-in}
+use Rattle.event.proofs.Laws.{ld-in, std-in}
 use Rattle.power_common.specs.Common.{Ran, passes, cr0-from-state, put-gpr, own-recording, fails, dooms, cr0-only, leveled, abort-cause}
 use Rattle.power_access.specs.Access.{tracked, ld-overflows, std-overflows, takes, joins, ld, logs, meets-own, std}
 use Rattle.power_aborts.specs.Aborts.{tabort, tabort-if}
@@ -275,22 +275,22 @@ module _ (t : Thread) (len : ℕ) where
   unfolding host
   host-fine pr tm r = valid (with-controls r _ (r .is) (r .addresses) (r .rules))
 
-pub not-bad : (k : Control) (n : ℕ) → refused-there k n ≡ 0 → bad-thing (k .state) k n ≡ false
+pub not-bad : (k : Control) (e : Event) → refused-there k e ≡ 0 → bad-thing (k .state) k (kind e) ≡ false
 unfolding refused-there
-not-bad k n p =
-    no-number (bad-thing (k .state) k n) 12 0
-    (no-number (forbidden k n) 11 _ (no-number (off k n) 10 _ (no-number (host-in-t (k .state) n) 4 _ p .1) .1) .1) .0
+not-bad k e p =
+    no-number (bad-thing (k .state) k (kind e)) 12 0
+    (no-number (forbidden k e) 11 _ (no-number (off k e) 10 _ (no-number (host-in-t (k .state) (kind e)) 4 _ p .1) .1) .1) .0
 
 pub own-keeps : (e : Event) (t : Thread) (mem : List ℕ) → memory-sized (length mem) ≡ true → thread-valid t (length mem) ≡ true
-    → operands-right e (length mem) ≡ true → refused-there (t .control) (kind e) ≡ 0
+    → operands-right e (length mem) ≡ true → refused-there (t .control) e ≡ 0
     → thread-valid (own e t mem .did .thread) (length mem) ≡ true
-unfolding own operands-right kind tsr mfspr addi
+unfolding own kind tsr mfspr addi
 own-keeps e t mem z h o q = go e o q
   where
     r : Right (t .control .state) t (length mem)
     r = right _ t _ refl h
 
-    go : (e : Event) → operands-right e (length mem) ≡ true → refused-there (t .control) (kind e) ≡ 0 → Fine (length mem) (own e t mem .did)
+    go : (e : Event) → operands-right e (length mem) ≡ true → refused-there (t .control) e ≡ 0 → Fine (length mem) (own e t mem .did)
     go (Tbegin b) o q = tbegin-fine t _ _ b r
     go (Tend a) o q = tend-fine t _ _ a mem r
     go (Tabort ra) o q = tabort-fine t _ _ _ r
@@ -299,11 +299,11 @@ own-keeps e t mem z h o q = go e o q
     go (Tsr l) o q = fork (Fine (length mem)) l (λ p. tresume-fine t _ _ r) (λ p. tsuspend-fine t _ _ r)
     go (Tcheck bf) o q = tcheck-fine t _ bf r
     go (Treclaim ra) o q = treclaim-fine t _ ra r
-    go Trechkpt o q = trechkpt-fine t _ _ (not-bad _ 9 q) r
-    go (Mtspr spr ra) o q = mtspr-fine t _ _ spr ra (not-bad _ 10 q) r
+    go Trechkpt o q = trechkpt-fine t _ _ (not-bad _ Trechkpt q) r
+    go (Mtspr spr ra) o q = mtspr-fine t _ _ spr ra (not-bad _ (Mtspr spr ra) q) r
     go (Mfspr rt spr) o q = gpr-fine t _ rt _ r
-    go (Ld rt i) o q = let l = access-in rt i _ o .1 in ld-fine t _ i l (line-below i _ z l) _ rt mem r
-    go (Std ra i) o q = let l = access-in ra i _ o .1 in std-fine t _ i l (line-below i _ z l) _ _ mem r
+    go (Ld rt i) o q = let l = ld-in rt i _ o .1 in ld-fine t _ i l (line-below i _ z l) _ rt mem r
+    go (Std ra i) o q = let l = std-in ra i _ o .1 in std-fine t _ i l (line-below i _ z l) _ _ mem r
     go (Addi rt ra si) o q = gpr-fine t _ rt _ r
     go Disallowed o q = disallowed-fine t _ _ r
     go Interrupt o q = interrupt-fine t _ _ r

@@ -20,7 +20,7 @@ use Rattle.thread.specs.declared.Thread.{Thread}
 use Rattle.event.specs.Event.{operands-right}
 use Rattle.event.specs.declared.Event.{Event}
 use Rattle.event.specs.declared.Event.the-variants.{Tbegin, Tend, Tabort, Tabortwc, Tabortdc, Tsr, Tcheck, Treclaim, Trechkpt, Mtspr, Mfspr, Ld, Std, Addi, Disallowed, Interrupt, Host}
-use Rattle.event.proofs.Laws.{access-in}
+use Rattle.event.proofs.Laws.{ld-in, std-in}
 use Rattle.power_common.specs.Common.{Ran, passes, cr0-from-state, fails, dooms}
 use Rattle.power_access.specs.Access.{takes, joins, tracked, ld-overflows, std-overflows, ld, logs, meets-own, std}
 use Rattle.power_aborts.specs.Aborts.{tabort, tabort-if}
@@ -207,12 +207,10 @@ module _ (e : Event) (t : Thread) (mem : List ℕ) (z : memory-sized (length mem
   shaped = valid-shaped t (length mem) h
 
   ld-line : (rt i : ℕ) → e ≡ Ld rt i → transaction.line i < lines
-  unfolding operands-right
-  ld-line rt i q = line-below i (length mem) z (access-in rt i (length mem) (rw q at o) .1)
+  ld-line rt i q = line-below i (length mem) z (ld-in rt i (length mem) (rw q at o) .1)
 
   std-line : (ra i : ℕ) → e ≡ Std ra i → transaction.line i < lines
-  unfolding operands-right
-  std-line ra i q = line-below i (length mem) z (access-in ra i (length mem) (rw q at o) .1)
+  std-line ra i q = line-below i (length mem) z (std-in ra i (length mem) (rw q at o) .1)
 
   -- what such a transaction adds to the write set, and to either set
   leaves-writes : (y : Transaction) (l : ℕ) → Leaves e t y → lineset.has (y .writes) l ≡ true → (lineset.has (t .transaction .writes) l ≡ true) ⊎ Stores e t l

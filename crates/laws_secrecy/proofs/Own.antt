@@ -23,7 +23,7 @@ use Rattle.thread.specs.declared.State.{State}
 use Rattle.thread.specs.declared.State.the-variants.{N, T, S}
 use Rattle.thread.specs.declared.Control.{Control}
 use Rattle.thread.specs.declared.Thread.{Thread}
-use Rattle.event.specs.Event.{kind}
+use Rattle.event.specs.Event.{trechkpt-kind, mtspr-kind, kind}
 use Rattle.event.specs.declared.Event.{Event}
 use Rattle.event.specs.declared.Event.the-variants.{Tbegin, Tend, Tabort, Tabortwc, Tabortdc, Tsr, Tcheck, Treclaim, Trechkpt, Mtspr, Mfspr, Ld, Std, Addi, Disallowed, Interrupt, Host}
 use Rattle.power_common.specs.Common.{Ran, did, ran, passes, gpr, fails, abort-cause}
@@ -93,8 +93,8 @@ unfolding handling recording transaction.discard
 failure-same t r f es z cause exact at = simp z
 
 -- a Bad Thing is refused
-barred : (k : Control) (n : ℕ) → bad-thing (k .state) k n ≡ true → refused-there k n ≡ 0 → ⊥
-barred k n b o = true≢false (sym b ∙ not-bad k n o)
+barred : (k : Control) (e : Event) → bad-thing (k .state) k (kind e) ≡ true → refused-there k e ≡ 0 → ⊥
+barred k e b o = true≢false (sym b ∙ not-bad k e o)
 
 module _ (t : Thread) (r : Registers) (f : ℕ) (es : List Entry) (mem : List ℕ) (p : t .control .state ≡ T) (z : failed (t .control) ≡ false)
     (size : length (t .transaction .log) ≡ length es) (q : (n : ℕ) → entry (t .transaction .log) n .index ≡ entry es n .index) where
@@ -180,7 +180,7 @@ module _ (t : Thread) (r : Registers) (f : ℕ) (es : List Entry) (mem : List �
   here : (P : State → Type 0) → P T → P (t .control .state)
   here P h = subst P (sym p) h
 
-  own-even : (e : Event) → tells e t ≡ false → refused-there (t .control) (kind e) ≡ 0 → EvenRan (own e t mem) (own e (beside t r f es) mem)
+  own-even : (e : Event) → tells e t ≡ false → refused-there (t .control) e ≡ 0 → EvenRan (own e t mem) (own e (beside t r f es) mem)
   unfolding own tells kind bad-thing tsr mfspr addi host
   own-even (Tbegin b) n o = here (λ s. Evenly (tbegin s t b) (tbegin s (beside t r f es) b)) (tbegin-even b)
   own-even (Tend a) n o = here (λ s. EvenRan (tend s t a mem) (tend s (beside t r f es) a mem)) (tend-even a n)
@@ -191,8 +191,8 @@ module _ (t : Thread) (r : Registers) (f : ℕ) (es : List Entry) (mem : List �
   own-even (Tsr l) n o = simp (not-false l n) (here (λ s. Evenly (tresume s t) (tresume s (beside t r f es))) tresume-even)
   own-even (Tcheck bf) n o = tcheck-even bf
   own-even (Treclaim ra) n o = treclaim-even ra (not-false _ n)
-  own-even Trechkpt n o = absurd (barred (t .control) 9 (here (λ s. bad-thing s (t .control) 9 ≡ true) refl) o)
-  own-even (Mtspr spr ra) n o = absurd (barred (t .control) 10 (here (λ s. bad-thing s (t .control) 10 ≡ true) refl) o)
+  own-even Trechkpt n o = absurd (barred (t .control) Trechkpt (here (λ s. bad-thing s (t .control) trechkpt-kind ≡ true) refl) o)
+  own-even (Mtspr spr ra) n o = absurd (barred (t .control) (Mtspr spr ra) (here (λ s. bad-thing s (t .control) mtspr-kind ≡ true) refl) o)
   own-even (Mfspr rt spr) n o = goes p q
   own-even (Ld rt i) n o = here (λ s. Evenly (ld s t rt i mem) (ld s (beside t r f es) rt i mem)) (ld-even rt i)
   own-even (Std ra i) n o = here (λ s. EvenRan (std s t (gpr t ra) i mem) (std s (beside t r f es) (gpr (beside t r f es) ra) i mem)) (std-even _ _ i)
@@ -246,7 +246,7 @@ module _ {t u : Thread} (a : AlikeThread t u) where
   overflows-alike e = overflows-same t (u .live) (u .cr0) (u .transaction .log) (a .addresses) e ∙ ap (overflows e) (is-beside a)
 
   pub own-alike : (e : Event) (mem : List ℕ) → length (t .transaction .log) ≡ length (u .transaction .log) → failed (t .control) ≡ false
-      → tells e t ≡ false → refused-there (t .control) (kind e) ≡ 0 → EvenRan (own e t mem) (own e u mem)
+      → tells e t ≡ false → refused-there (t .control) e ≡ 0 → EvenRan (own e t mem) (own e u mem)
   own-alike e mem size z n o =
       subst (λ (x : Thread). EvenRan (own e t mem) (own e x mem)) (is-beside a)
       (own-even t (u .live) (u .cr0) (u .transaction .log) mem (a .transactional) z size (a .addresses) e n o)

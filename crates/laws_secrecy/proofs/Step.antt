@@ -14,7 +14,7 @@ use Rattle.thread.specs.Thread.{failed}
 use Rattle.thread.specs.declared.State.the-variants.{T}
 use Rattle.thread.specs.declared.Control.{Control}
 use Rattle.thread.specs.declared.Thread.{Thread}
-use Rattle.event.specs.Event.{kind, operands-right}
+use Rattle.event.specs.Event.{operands-right}
 use Rattle.event.specs.declared.Event.{Event}
 use Rattle.power_common.specs.Common.{Ran}
 use Rattle.power_effect.specs.Events.{overflows, own}
@@ -90,7 +90,7 @@ module _ (w : ℕ) (m n : Machine) (mem : List ℕ) (right : valid m (length mem
   unfolding refused-later
   refusal-same v e =
       refusal-valid m _ v e right
-      ∙ (λ j. cond (leb (a .count j) v) 3 (cond (not (operands-right e (length mem))) 4 (refused-there (at-control (near .each v) j) (kind e))))
+      ∙ (λ j. cond (leb (a .count j) v) 3 (cond (not (operands-right e (length mem))) 4 (refused-there (at-control (near .each v) j) e)))
       ∙ sym (refusal-valid n _ v e right')
 
   -- thread w is valid in both, and its transaction has not failed

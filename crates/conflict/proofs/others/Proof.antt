@@ -1,8 +1,7 @@
 -- `conflict::others` meets its contract.
 use Rattle.conflict.specs.Conflict.{others}
 use native.Mathlib.Omega.{arith}
-use Rattle.event.specs.Event.{operands-right}
-use Rattle.event.proofs.Laws.{access-in}
+use Rattle.event.proofs.Laws.{ld-in, std-in}
 use borrow.Author.Needs.{needs}
 use Rattle.conflict.proofs.others.Statement.{statement}
 use Rattle.conflict.proofs.others.Tie as tie
@@ -44,22 +43,20 @@ enum-known-e : tie.Need-enum-known-e
 enum-known-e c = search needs
 
 access-requires : tie.Need-access-requires
-unfolding operands-right
 access-requires c κs =
     let e = c .before in
     let s = e .before .before in
-    let h = access-in (e .e .given .0 .0) (e .e .given .0 .1 .0) _ (rw (e .e .given .1) at (s .pre .1 .0)) in
+    let h = ld-in (e .e .given .0 .0) (e .e .given .0 .1 .0) _ (rw (e .e .given .1) at (s .pre .1 .0)) in
     (s .pre .0, omega (arith, h .1, s .pre .1 .1))
 
 enum-known-e-2 : tie.Need-enum-known-e-2
 enum-known-e-2 c = search needs
 
 access-requires-2 : tie.Need-access-requires-2
-unfolding operands-right
 access-requires-2 c κs =
     let e = c .before in
     let s = e .before .before in
-    let h = access-in (e .e2 .given .0 .0) (e .e2 .given .0 .1 .0) _ (rw (e .e2 .given .1) at (s .pre .1 .0)) in
+    let h = std-in (e .e2 .given .0 .0) (e .e2 .given .0 .1 .0) _ (rw (e .e2 .given .1) at (s .pre .1 .0)) in
     (s .pre .0, omega (arith, h .1, s .pre .1 .1))
 
 enum-told-12 : tie.Need-enum-told-12

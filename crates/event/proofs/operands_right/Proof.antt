@@ -1,5 +1,5 @@
 -- `event::operands_right` meets its contract.
-use Rattle.event.specs.Event.{kind, operands-right}
+use Rattle.event.specs.Event.{operands-right}
 use borrow.Author.Needs.{needs}
 use Rattle.event.proofs.operands_right.Statement.{statement}
 use Rattle.event.proofs.operands_right.Tie as tie
@@ -14,7 +14,7 @@ fields-right-requires : tie.Need-fields-right-requires
 fields-right-requires c κs = search needs
 
 returns : tie.Need-returns
-unfolding kind operands-right
+unfolding operands-right
 returns c = simp (c .fields-right .ensures, c .before .row .ensures, c .before .before .fields-of .ensures)
 
 pub operands-right-spec : {M : Type 1} → statement M

@@ -1,5 +1,5 @@
 -- `event::privileged` meets its contract.
-use Rattle.event.specs.Event.{kind, privileged}
+use Rattle.event.specs.Event.{privileged}
 use borrow.Author.Needs.{needs}
 use Rattle.event.proofs.privileged.Statement.{statement}
 use Rattle.event.proofs.privileged.Tie as tie
@@ -14,7 +14,7 @@ holds-requires : tie.Need-holds-requires
 holds-requires c κs = search needs
 
 returns : tie.Need-returns
-unfolding kind privileged
+unfolding privileged
 returns c = simp (c .holds .ensures, c .before .row .ensures, c .before .before .fields-of .ensures)
 
 pub privileged-spec : {M : Type 1} → statement M

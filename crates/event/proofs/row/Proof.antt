@@ -1,6 +1,6 @@
 -- `event::row` meets its contract.
 use mathlib.Core.Logic.{⊎-elim}
-use Rattle.event.specs.Rows.{rows, row}
+use Rattle.event.specs.Rows.{row}
 use Rattle.event.proofs.Table.{chosen, neighbour, past, low, high}
 use borrow.Author.Needs.{needs}
 use Rattle.event.proofs.row.Statement.{statement}
@@ -49,50 +49,50 @@ line-requires-14 : tie.Need-line-requires-14
 line-requires-14 c κs = search needs
 
 returns : tie.Need-returns
-unfolding rows row
+unfolding row
 returns c = chosen 3 (c .line .ensures) (c .before .match .keys1)
 
 returns-2 : tie.Need-returns-2
-unfolding rows row
+unfolding row
 returns-2 c = chosen 6 (c .line2 .ensures) (c .before .match .keys2)
 
 returns-3 : tie.Need-returns-3
-unfolding rows row
+unfolding row
 returns-3 c = chosen 7 (c .line3 .ensures) (c .before .match .keys3)
 
 returns-4 : tie.Need-returns-4
-unfolding rows row
+unfolding row
 returns-4 c = chosen 8 (c .line4 .ensures) (c .before .match .keys4)
 
 returns-5 : tie.Need-returns-5
-unfolding rows row
+unfolding row
 returns-5 c = chosen 9 (c .line5 .ensures) (c .before .match .keys5)
 
 returns-6 : tie.Need-returns-6
-unfolding rows row
+unfolding row
 returns-6 c = chosen 12 (c .line6 .ensures) (c .before .match .keys6)
 
 returns-7 : tie.Need-returns-7
-unfolding rows row
+unfolding row
 returns-7 c = chosen 13 (c .line7 .ensures) (c .before .match .keys7)
 
 returns-8 : tie.Need-returns-8
-unfolding rows row
+unfolding row
 returns-8 c = chosen 14 (c .line8 .ensures) (c .before .match .keys8)
 
 returns-9 : tie.Need-returns-9
-unfolding rows row
+unfolding row
 returns-9 c = chosen 17 (c .line9 .ensures) (c .before .match .keys9)
 
 returns-10 : tie.Need-returns-10
-unfolding rows row
+unfolding row
 returns-10 c =
     neighbour 1 _ (chosen 1 (c .line10 .ensures)) (chosen 2 (c .line10 .ensures))
     (c .before .before .if1 .left)
     (c .before .if2 .taken)
 
 returns-11 : tie.Need-returns-11
-unfolding rows row
+unfolding row
 returns-11 c =
     let r = c .before .before .before .before .match .rest in
     neighbour 4 _ (chosen 4 (c .line11 .ensures)) (chosen 5 (c .line11 .ensures))
@@ -100,7 +100,7 @@ returns-11 c =
     (c .before .if3 .taken)
 
 returns-12 : tie.Need-returns-12
-unfolding rows row
+unfolding row
 returns-12 c =
     let r = c .before .before .before .before .before .match .rest in
     neighbour 10 _ (chosen 10 (c .line12 .ensures)) (chosen 11 (c .line12 .ensures))
@@ -108,7 +108,7 @@ returns-12 c =
     (c .before .if4 .taken)
 
 returns-13 : tie.Need-returns-13
-unfolding rows row
+unfolding row
 returns-13 c =
     let r = c .before .before .before .before .before .before .match .rest in
     neighbour 15 _ (chosen 15 (c .line13 .ensures)) (chosen 16 (c .line13 .ensures))

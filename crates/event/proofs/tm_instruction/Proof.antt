@@ -1,5 +1,5 @@
 -- `event::tm_instruction` meets its contract.
-use Rattle.event.specs.Event.{kind, tm-instruction}
+use Rattle.event.specs.Event.{tm-instruction}
 use borrow.Author.Needs.{needs}
 use Rattle.event.proofs.tm_instruction.Statement.{statement}
 use Rattle.event.proofs.tm_instruction.Tie as tie
@@ -14,7 +14,7 @@ holds-requires : tie.Need-holds-requires
 holds-requires c κs = search needs
 
 returns : tie.Need-returns
-unfolding kind tm-instruction
+unfolding tm-instruction
 returns c = simp (c .holds .ensures, c .before .row .ensures, c .before .before .fields-of .ensures)
 
 pub tm-instruction-spec : {M : Type 1} → statement M
