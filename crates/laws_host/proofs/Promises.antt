@@ -1,21 +1,31 @@
--- What is refused changes nothing; every event has fields.
-use mathlib.Core.Path.{_≡_, refl}
-use mathlib.Core.Bool.{Bool, true, false}
+-- What is refused changes nothing; every event has fields; fields written and read back, and read and written back.
+use mathlib.Core.Path.{_≡_, refl, sym, ap, _∙_}
+use mathlib.Core.Bool.{Bool, true, false, not, cond, _&&_}
 use mathlib.Core.List.{List}
-use Prim.Native.Nat.{ℕ}
-use lib.ListN.{length}
+use Prim.Native.Nat.{ℕ, _≤_}
+use native.Mathlib.Omega.{arith}
+use lib.Dec.{ltb}
+use lib.ListN.{length, take, drop}
+use borrow.Author.Tests.{ltb-false, le-ltb}
 use Rattle.base.specs.Limits.{most-threads}
 use Rattle.machine.specs.Valid.{sized}
 use Rattle.tape.specs.declared.Read.{Read}
 use Rattle.tape.specs.declared.Read.the-variants.{Record, Refused}
-use Rattle.laws_round.proofs.Round.{written}
+use Rattle.tape.specs.Tape as tape
+use Rattle.event.specs.Rows.{kind-right, row}
+use Rattle.event.specs.Event.{fields-of}
+use Rattle.event.specs.declared.Event.{Event}
+use Rattle.event.specs.declared.Fields.{Fields}
+use Rattle.laws_round.specs.Round.{FieldsFit, Bytes}
+use Rattle.laws_round.proofs.Round.{written, taken-kept, reads-written, writes-read, keeps-rest}
 use Rattle.run.specs.Run.{goes-on}
 use Rattle.run.proofs.Steps as steps
 use Rattle.crossing.specs.Crossing.{right, machine-of}
 use Rattle.crossing.specs.declared.RawMachine.{RawMachine}
 use Rattle.laws_host.proofs.Crosses.{back}
-use Rattle.host.specs.Host.{number, met, outcome, event-read, step, run}
-use Rattle.laws_host.specs.Promises.{NoMachine, StopChangesNothing, EventCrosses}
+use Rattle.host.specs.Host.{number, met, outcome, event-read, step, run, record-of, read, write-answer-of, write-answer, write}
+use Rattle.host.specs.Host as host
+use Rattle.laws_host.specs.Promises.{NoMachine, StopChangesNothing, EventCrosses, ReadsWritten, WritesRead, KeepsRest}
 
 two : (m : RawMachine) (len : ℕ) → right m ≡ false → sized (machine-of m) len ≡ true → number m len ≡ 2
 unfolding number
@@ -46,3 +56,23 @@ stop-changes-nothing m mem f four h = met-stops m mem (event-read f) (right m) r
 
 pub event-crosses : EventCrosses
 event-crosses = written
+
+-- ---- one record
+
+-- a refusal has a number
+no-0 : (b : Bool) (n : ℕ) (r : Read) → tape.number (cond (not b) (Refused n) r) ≡ cond (not b) n (tape.number r)
+no-0 true n r = refl
+no-0 false n r = refl
+
+module _ (f : Fields) (buf : List ℕ) where
+  -- what is written of a record and of a refusal
+  back : FieldsFit f → (r : Read) → event-read f ≡ r → write-answer-of r buf ≡ 0
+      → record-of (tape.read (take tape.record-size (host.written r buf))) ≡ record { answer = 0; event = f }
+  back fits (Record w e) p z =
+      let k = taken-kept f w e p in
+      ap record-of (reads-written w e buf (long buf z) (rw k fits)) ∙ (λ j. record { answer = 0; event = k j })
+  back fits (Refused n) p z = absurd (never f n p z)
+
+  behind : (r : Read) → (length (host.written r buf) ≡ length buf) × (drop tape.record-size (host.written r buf) ≡ drop tape.record-size buf)
+  behind (Record w e) = keeps-rest w e buf
+  behind (Refused n) = (refl, refl)

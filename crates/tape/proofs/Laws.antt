@@ -1,5 +1,5 @@
 -- What the reader's tests tell: its first two, and its match on the kind; and bytes laid over a buffer's start.
-use mathlib.Core.Path.{_≡_, sym, ap, _∙_}
+use mathlib.Core.Path.{_≡_, _∙_}
 use mathlib.Core.Bool.{Bool, _&&_}
 use mathlib.Core.List.{List, _++_}
 use Prim.Native.Nat.{ℕ, _+_, _<_, _≤_}
@@ -7,7 +7,7 @@ use native.Mathlib.Omega.{arith}
 use native.Mathlib.Nat.{zero-add}
 use native.Mathlib.Numerals.{add-one}
 use lib.ListN.{length, take, drop, getD, set}
-use lib.Seq.{take-length, sets, sets-eq, paste-suc}
+use lib.Seq.{sets, sets-eq, paste-suc}
 use borrow.Author.Tests.{le-leb, lt-leb, eq-eqb}
 use Rattle.event.specs.Rows.{kind-right, row}
 use Rattle.event.specs.declared.Fields.{Fields}
@@ -41,6 +41,5 @@ over buf cs i = take i cs ++ drop i buf
 pub over-more : (buf cs : List ℕ) (i : ℕ) → i < length buf → i < length cs → set (over buf cs i) i (getD cs i 0) ≡ over buf cs (i + 1)
 over-more buf cs i hb hc = simp (zero-add, ← add-one) at (paste-suc buf 0 cs i 0 (omega arith) hc)
 
-pub over-all : (buf cs : List ℕ) → length cs ≤ length buf → sets buf 0 cs ≡ over buf cs (length cs)
-over-all buf cs h =
-    simp zero-add at (sets-eq cs buf 0 (omega arith)) ∙ ap (λ (x : List ℕ). x ++ drop (length cs) buf) (sym (take-length cs))
+pub over-all : (buf cs : List ℕ) → length cs ≤ length buf → sets buf 0 cs ≡ cs ++ drop (length cs) buf
+over-all buf cs h = simp zero-add at (sets-eq cs buf 0 (omega arith))

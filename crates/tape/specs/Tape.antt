@@ -2,6 +2,7 @@
 use Prim.Native.Nat.{ℕ, _+_, _*_, _/_, _%_}
 use mathlib.Core.Bool.{Bool, not, cond, _&&_, _||_}
 use mathlib.Core.List.{List, [], _∷_}
+use mathlib.Core.Option.{Option, some, none}
 use lib.Dec.{eqb, leb, ltb}
 use lib.ListN.{getD, length}
 use lib.Seq.{sets}
@@ -74,10 +75,14 @@ read bs =
     (cond (not (eqb (byte bs 0) first-byte)) (Refused 7)
     (of-kind (fields-at bs) (fixed-zero bs)))
 
--- the number of an answer: 0 for a record, or the number by which it is refused
+-- document 01's number of each answer, and its values: a record is 0 with its thread and event, a refusal its number alone
 abbrev pub number : Read → ℕ
 number (Record w e) = 0
 number (Refused n) = n
+
+abbrev pub values : Read → Option (ℕ × Event)
+values (Record w e) = some (w, e)
+values (Refused n) = none
 
 -- the writer: number 10 for a buffer under 16 bytes, which stays; else the first 16 bytes
 unfoldable pub write-answer : List ℕ → ℕ

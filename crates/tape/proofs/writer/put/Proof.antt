@@ -1,10 +1,11 @@
 -- `tape::writer::put` meets its contract: the first i bytes are those of the record.
 use mathlib.Core.Path.{_≡_, refl, sym, ap, _∙_}
-use mathlib.Core.List.{List}
+use mathlib.Core.List.{List, _++_}
 use Prim.Native.Nat.{ℕ, _-_, _≤_}
 use native.Mathlib.Omega.{arith}
 use borrow.Author.Needs.{needs}
-use lib.ListN.{length, getD, set, length-set}
+use lib.ListN.{length, drop, getD, set, length-set}
+use lib.Seq.{take-length}
 use Rattle.tape.proofs.Laws.{over, over-more, over-all}
 use Rattle.tape.proofs.writer.put.Statement.{statement}
 use Rattle.tape.proofs.writer.put.Tie as tie
@@ -50,7 +51,7 @@ returns c =
     let d = l .before .args .buf .now in
     let s = l .before .args .src .now in
     let e : l .loop .i ≡ length s = omega arith in
-    l .loop .inv .2 ∙ ap (over d s) e ∙ sym (over-all d s (l .before .pre))
+    l .loop .inv .2 ∙ ap (over d s) e ∙ ap (λ (x : List ℕ). x ++ drop (length s) d) (take-length s) ∙ sym (over-all d s (l .before .pre))
 
 pub put-spec : {M : Type 1} → statement M
 put-spec =
