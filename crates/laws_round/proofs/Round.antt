@@ -1,5 +1,5 @@
 -- Both round trips: of fields and events, of any layout, and of the tape's layout with its reader.
-use mathlib.Core.Path.{_≡_, refl, sym, ap, _∙_}
+use mathlib.Core.Path.{_≡_, refl, sym, ap, subst, _∙_}
 use mathlib.Core.Bool.{Bool, true, false, not, cond, _&&_, _||_}
 use mathlib.Core.List.{List, [], _∷_, _++_}
 use mathlib.Core.Logic.{⊎-elim}
@@ -336,22 +336,31 @@ pub numbers-in-order : NumbersInOrder
 unfolding read of-kind judged fields-at
 numbers-in-order bs = simp number-chosen
 
--- what says 0 alone has values
-abbrev Meant : ℕ × Event → Read → Type 0
+-- an answer has values if its number is 0, and no other has
+abbrev pub Meant : ℕ × Event → Read → Type 0
 Meant v r = values r ≡ cond (eqb (number r) 0) (some v) none
 
 meant : (v : ℕ × Event) (b : Bool) (n : ℕ) (r : Read) → eqb n 0 ≡ false → Meant v r → Meant v (cond (not b) (Refused n) r)
 meant v true n r z p = p
 meant v false n r z p = simp z
 
+pub of-kind-meant : (f : Fields) (z : Bool) → Meant (f .thread, event-of f) (of-kind f z)
+unfolding of-kind judged
+of-kind-meant f z =
+    meant _ (kind-right (f .kind)) 8 _ refl (meant _ (z && unused-clear (row (f .kind)) f) 9 _ refl refl)
+
 pub one-meaning : OneMeaning
-unfolding read of-kind judged fields-at
+unfolding read fields-at
 one-meaning bs =
-    let v : ℕ × Event = (byte bs 2, event-of (fields-at bs)) in
-    meant v (eqb (length bs) record-size) 6 _ refl
-    (meant v (eqb (byte bs 0) first-byte) 7 _ refl
-    (meant v (kind-right (byte bs 1)) 8 _ refl
-    (meant v (fixed-zero bs && unused-clear (row (byte bs 1)) (fields-at bs)) 9 _ refl refl)))
+    meant _ (eqb (length bs) record-size) 6 _ refl
+    (meant _ (eqb (byte bs 0) first-byte) 7 _ refl (of-kind-meant (fields-at bs) (fixed-zero bs)))
+
+-- so no refusal is 0
+pub not-0 : (v : ℕ × Event) (r : Read) (n : ℕ) → Meant v r → r ≡ Refused n → n ≡ 0 → ⊥
+not-0 v r n m p z =
+    let q : Meant v (Refused 0) = subst (Meant v) (p ∙ ap Refused z) m in
+    let o : _≡_ {A = ℕ} 0 1 = cc q in
+    omega arith
 
 pub edition-two : EditionTwo
 unfolding read
