@@ -18,6 +18,7 @@ pub enum When {
     Always,
 }
 
+// The fields X, RA and RB, the largest flags, the fields index and SI, and what the kind is.
 pub struct Row {
     pub x: Use,
     pub ra: Use,
@@ -54,6 +55,7 @@ pub fn line(
     }
 }
 
+// Whether the field is used at all: one that is not is 0 in a record.
 pub fn used(u: Use) -> bool
     ensures { λ r. ⌜ r ≡ used u ⌝ }
 {

@@ -1,4 +1,4 @@
--- Both round trips: of fields and events, of any layout, and of the tape's layout with its reader.
+-- Both round trips: of fields and events, of any layout, and of the tape's reader and writer; and the reader's numbers.
 use mathlib.Core.Path.{_≡_, refl, sym, ap, subst, _∙_}
 use mathlib.Core.Bool.{Bool, true, false, not, cond, _&&_, _||_}
 use mathlib.Core.List.{List, [], _∷_, _++_}

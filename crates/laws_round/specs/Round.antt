@@ -1,4 +1,5 @@
--- What is promised of a record written and read back, and read and written back, over any layout and over the tape's; proved in proofs/Round.antt.
+-- What is promised of a record written and read back, and read and written back, over any layout and by the tape's reader and writer; and of
+-- the reader's numbers. Proved in proofs/Round.antt.
 use mathlib.Core.Path.{_≡_}
 use mathlib.Core.Bool.{Bool, true, not, cond, _&&_}
 use mathlib.Core.List.{List, [], _∷_}
@@ -89,11 +90,13 @@ LayoutKeepsRest =
 abbrev pub accepts : List ℕ → Bool
 accepts bs = eqb (byte bs 0) first-byte && fixed-zero bs
 
+-- the first 16 bytes after the writer are read as what was written
 abbrev pub ReadsWritten : Type 0
 ReadsWritten =
     (w : ℕ) (e : Event) (buf : List ℕ) → record-size ≤ length buf → FieldsFit (fields-of w e)
     → read (take record-size (write w e buf)) ≡ Record w e
 
+-- writing what was read leaves exactly those bytes in the first 16, whatever stood there
 abbrev pub WritesRead : Type 0
 WritesRead =
     (bs : List ℕ) (w : ℕ) (e : Event) (buf : List ℕ) → Bytes bs → read bs ≡ Record w e → record-size ≤ length buf
@@ -103,6 +106,7 @@ WritesRead =
 abbrev pub WritesOver : Type 0
 WritesOver = (bs : List ℕ) (w : ℕ) (e : Event) → Bytes bs → read bs ≡ Record w e → write w e bs ≡ bs
 
+-- everything behind the 16th byte stays
 abbrev pub KeepsRest : Type 0
 KeepsRest =
     (w : ℕ) (e : Event) (buf : List ℕ)

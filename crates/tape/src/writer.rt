@@ -10,7 +10,7 @@ use event::Event;
 use event::Fields;
 
 // The record's bytes.
-fn bytes(f: Fields) -> [u8; 16]
+fn bytes(f: Fields) -> [u8; RECORD_SIZE]
     ensures { λ r. ⌜ r ≡ bytes f ⌝ }
 {
     let index = f.index;
