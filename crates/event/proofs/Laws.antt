@@ -1,20 +1,73 @@
 -- What right operands tell of registers and indices.
 use mathlib.Core.Path.{_≡_}
-use mathlib.Core.Bool.{true}
+use mathlib.Core.Bool.{Bool, true, not, _&&_, _||_}
 use Prim.Native.Nat.{ℕ, _<_}
 use borrow.Author.Tests.{ltb-true}
 use lib.Dec.{ltb}
 use Rattle.base.proofs.Below.{and-left, and-right}
-use Rattle.event.specs.Event.{register-right, spr-right, pair-right, compare-right, special-right, access-right}
+use Rattle.event.specs.Rows.{row, in-range, fields-right}
+use Rattle.event.specs.Event.{fields-of, kind, operands-right}
+use Rattle.event.specs.declared.Event.{Event}
+use Rattle.event.specs.declared.Event.the-variants.{Tabort, Tabortwc, Tabortdc, Tcheck, Treclaim, Mtspr, Mfspr, Ld, Std, Addi}
+use Rattle.event.specs.declared.Fields.{Fields}
+use Rattle.event.specs.declared.rows.Row.{Row}
 
-pub pair-registers : (a b : ℕ) → pair-right a b ≡ true → (a < 32) × (b < 32)
-pair-registers a b p = (ltb-true a 32 (and-left _ _ p), ltb-true b 32 (and-right (register-right a) _ p))
+-- the row's four tests
+record Right (r : Row) (f : Fields) (len : ℕ) : Type 0 where
+  x : in-range (r .x) (f .x) ≡ true
+  ra : in-range (r .ra) (f .ra) ≡ true
+  rb : in-range (r .rb) (f .rb) ≡ true
+  index : (not (r .index) || ltb (f .index) len) ≡ true
 
-pub compare-registers : (to ra rb : ℕ) → compare-right to ra rb ≡ true → (ra < 32) × (rb < 32)
-compare-registers to ra rb p = pair-registers ra rb (and-right (ltb to 32) _ p)
+right : (r : Row) (f : Fields) (len : ℕ) → fields-right r f len ≡ true → Right r f len
+right r f len p =
+    let x = in-range (r .x) (f .x) in
+    let ra = in-range (r .ra) (f .ra) in
+    let rb = in-range (r .rb) (f .rb) in
+    let q = and-left (x && ra && rb) _ p in
+    let s = and-left (x && ra) rb q in
+    record { x = and-left x ra s; ra = and-right x ra s; rb = and-right (x && ra) rb q; index = and-right (x && ra && rb) _ p }
 
-pub special-register : (spr r : ℕ) → special-right spr r ≡ true → r < 32
-special-register spr r p = ltb-true r 32 (and-left _ (spr-right spr) p)
+tests : (e : Event) (len : ℕ) → operands-right e len ≡ true → Right (row (kind e)) (fields-of 0 e) len
+unfolding operands-right
+tests e len p = right (row (kind e)) (fields-of 0 e) len p
 
-pub access-in : (r i len : ℕ) → access-right r i len ≡ true → (r < 32) × (i < len)
-access-in r i len p = (ltb-true r 32 (and-left _ _ p), ltb-true i len (and-right (register-right r) _ p))
+pub tabort-register : (ra len : ℕ) → operands-right (Tabort ra) len ≡ true → ra < 32
+unfolding row kind
+tabort-register ra len p = ltb-true ra 32 (tests _ len p .ra)
+
+pub tabortwc-registers : (to ra rb len : ℕ) → operands-right (Tabortwc to ra rb) len ≡ true → (ra < 32) × (rb < 32)
+unfolding row kind
+tabortwc-registers to ra rb len p = let t = tests _ len p in (ltb-true ra 32 (t .ra), ltb-true rb 32 (t .rb))
+
+pub tabortdc-registers : (to ra rb len : ℕ) → operands-right (Tabortdc to ra rb) len ≡ true → (ra < 32) × (rb < 32)
+unfolding row kind
+tabortdc-registers to ra rb len p = let t = tests _ len p in (ltb-true ra 32 (t .ra), ltb-true rb 32 (t .rb))
+
+pub tcheck-field : (bf len : ℕ) → operands-right (Tcheck bf) len ≡ true → bf < 8
+unfolding row kind
+tcheck-field bf len p = ltb-true bf 8 (tests _ len p .x)
+
+pub treclaim-register : (ra len : ℕ) → operands-right (Treclaim ra) len ≡ true → ra < 32
+unfolding row kind
+treclaim-register ra len p = ltb-true ra 32 (tests _ len p .ra)
+
+pub mtspr-register : (spr ra len : ℕ) → operands-right (Mtspr spr ra) len ≡ true → ra < 32
+unfolding row kind
+mtspr-register spr ra len p = ltb-true ra 32 (tests _ len p .ra)
+
+pub mfspr-register : (rt spr len : ℕ) → operands-right (Mfspr rt spr) len ≡ true → rt < 32
+unfolding row kind
+mfspr-register rt spr len p = ltb-true rt 32 (tests _ len p .ra)
+
+pub ld-in : (rt i len : ℕ) → operands-right (Ld rt i) len ≡ true → (rt < 32) × (i < len)
+unfolding row kind
+ld-in rt i len p = let t = tests _ len p in (ltb-true rt 32 (t .x), ltb-true i len (t .index))
+
+pub std-in : (ra i len : ℕ) → operands-right (Std ra i) len ≡ true → (ra < 32) × (i < len)
+unfolding row kind
+std-in ra i len p = let t = tests _ len p in (ltb-true ra 32 (t .ra), ltb-true i len (t .index))
+
+pub addi-registers : (rt ra si len : ℕ) → operands-right (Addi rt ra si) len ≡ true → (rt < 32) × (ra < 32)
+unfolding row kind
+addi-registers rt ra si len p = let t = tests _ len p in (ltb-true rt 32 (t .x), ltb-true ra 32 (t .ra))

@@ -1,64 +1,88 @@
--- The seventeen kinds of event (document 01, "Events").
-use Prim.Native.Nat.{ℕ}
-use mathlib.Core.Bool.{Bool, true, _&&_}
-use lib.Dec.{leb, ltb}
+-- The seventeen kinds of event (document 01, "Events"), the fields of each, and what its row tells.
+use Prim.Native.Nat.{ℕ, _+_, _*_, _/_, _%_}
+use mathlib.Core.Bool.{Bool, cond}
+use lib.Dec.{eqb}
+use Rattle.base.specs.Below.{bit}
+use Rattle.event.specs.Rows.{row, fields-right, holds}
 use Rattle.event.specs.declared.Event.{Event}
 use Rattle.event.specs.declared.Event.the-variants.{Tbegin, Tend, Tabort, Tabortwc, Tabortdc, Tsr, Tcheck, Treclaim, Trechkpt, Mtspr, Mfspr, Ld, Std, Addi, Disallowed, Interrupt, Host}
+use Rattle.event.specs.declared.Fields.{Fields}
+
+-- kinds that a refusal names; src/lib.rt has the same numbers for the code
+abbrev pub tend-kind : ℕ
+tend-kind = 2
+
+abbrev pub treclaim-kind : ℕ
+treclaim-kind = 8
+
+abbrev pub trechkpt-kind : ℕ
+trechkpt-kind = 9
+
+abbrev pub mtspr-kind : ℕ
+mtspr-kind = 10
+
+abbrev pub host-kind : ℕ
+host-kind = 17
+
+abbrev pub fields : (kind thread x ra rb flags index si : ℕ) → Fields
+fields k w x ra rb flags i si = record { kind = k; thread = w; x = x; ra = ra; rb = rb; flags = flags; index = i; si = si }
+
+-- the fields of an event. X is SPR, BF or TO, else RT; RA is RT for mfspr
+unfoldable pub fields-of : ℕ → Event → Fields
+fields-of w (Tbegin r) = fields 1 w 0 0 0 (bit r) 0 0
+fields-of w (Tend a) = fields tend-kind w 0 0 0 (bit a) 0 0
+fields-of w (Tabort ra) = fields 3 w 0 ra 0 0 0 0
+fields-of w (Tabortwc to ra rb) = fields 4 w to ra rb 0 0 0
+fields-of w (Tabortdc to ra rb) = fields 5 w to ra rb 0 0 0
+fields-of w (Tsr l) = fields 6 w 0 0 0 (bit l) 0 0
+fields-of w (Tcheck bf) = fields 7 w bf 0 0 0 0 0
+fields-of w (Treclaim ra) = fields treclaim-kind w 0 ra 0 0 0 0
+fields-of w Trechkpt = fields trechkpt-kind w 0 0 0 0 0 0
+fields-of w (Mtspr spr ra) = fields mtspr-kind w spr ra 0 0 0 0
+fields-of w (Mfspr rt spr) = fields 11 w spr rt 0 0 0 0
+fields-of w (Ld rt i) = fields 12 w rt 0 0 0 i 0
+fields-of w (Std ra i) = fields 13 w 0 ra 0 0 i 0
+fields-of w (Addi rt ra si) = fields 14 w rt ra 0 0 0 si
+fields-of w Disallowed = fields 15 w 0 0 0 0 0 0
+fields-of w Interrupt = fields 16 w 0 0 0 0 0 0
+fields-of w (Host pr tm) = fields host-kind w 0 0 0 (bit pr + 2 * bit tm) 0 0
+
+-- the event of fields of a right kind
+unfoldable pub event-of : Fields → Event
+event-of f =
+    cond (eqb (f .kind) 1) (Tbegin (eqb (f .flags) 1))
+    (cond (eqb (f .kind) tend-kind) (Tend (eqb (f .flags) 1))
+    (cond (eqb (f .kind) 3) (Tabort (f .ra))
+    (cond (eqb (f .kind) 4) (Tabortwc (f .x) (f .ra) (f .rb))
+    (cond (eqb (f .kind) 5) (Tabortdc (f .x) (f .ra) (f .rb))
+    (cond (eqb (f .kind) 6) (Tsr (eqb (f .flags) 1))
+    (cond (eqb (f .kind) 7) (Tcheck (f .x))
+    (cond (eqb (f .kind) treclaim-kind) (Treclaim (f .ra))
+    (cond (eqb (f .kind) trechkpt-kind) Trechkpt
+    (cond (eqb (f .kind) mtspr-kind) (Mtspr (f .x) (f .ra))
+    (cond (eqb (f .kind) 11) (Mfspr (f .ra) (f .x))
+    (cond (eqb (f .kind) 12) (Ld (f .x) (f .index))
+    (cond (eqb (f .kind) 13) (Std (f .ra) (f .index))
+    (cond (eqb (f .kind) 14) (Addi (f .x) (f .ra) (f .si))
+    (cond (eqb (f .kind) 15) Disallowed
+    (cond (eqb (f .kind) 16) Interrupt
+    (Host (eqb (f .flags % 2) 1) (eqb (f .flags / 2 % 2) 1)))))))))))))))))
 
 -- the number of an event's kind
 unfoldable pub kind : Event → ℕ
-kind (Tbegin r) = 1
-kind (Tend a) = 2
-kind (Tabort ra) = 3
-kind (Tabortwc to ra rb) = 4
-kind (Tabortdc to ra rb) = 5
-kind (Tsr l) = 6
-kind (Tcheck bf) = 7
-kind (Treclaim ra) = 8
-kind Trechkpt = 9
-kind (Mtspr spr ra) = 10
-kind (Mfspr rt spr) = 11
-kind (Ld rt i) = 12
-kind (Std ra i) = 13
-kind (Addi rt ra si) = 14
-kind Disallowed = 15
-kind Interrupt = 16
-kind (Host pr tm) = 17
+unfolding fields-of
+kind e = fields-of 0 e .kind
 
--- number 4 of document 01, "Numbers given back": used registers to 31, BF to 7, TO to 31, SPR 128 to 131, the index in memory
-abbrev pub register-right : ℕ → Bool
-register-right r = ltb r 32
-
-abbrev pub spr-right : ℕ → Bool
-spr-right spr = leb 128 spr && leb spr 131
-
-abbrev pub pair-right : ℕ → ℕ → Bool
-pair-right a b = register-right a && register-right b
-
-abbrev pub compare-right : ℕ → ℕ → ℕ → Bool
-compare-right to ra rb = ltb to 32 && pair-right ra rb
-
-abbrev pub special-right : ℕ → ℕ → Bool
-special-right spr r = register-right r && spr-right spr
-
-abbrev pub access-right : ℕ → ℕ → ℕ → Bool
-access-right r i len = register-right r && ltb i len
-
+-- number 4: the operands are right over a memory of len doublewords
 unfoldable pub operands-right : Event → ℕ → Bool
-operands-right (Tbegin r) len = true
-operands-right (Tend a) len = true
-operands-right (Tabort ra) len = register-right ra
-operands-right (Tabortwc to ra rb) len = compare-right to ra rb
-operands-right (Tabortdc to ra rb) len = compare-right to ra rb
-operands-right (Tsr l) len = true
-operands-right (Tcheck bf) len = ltb bf 8
-operands-right (Treclaim ra) len = register-right ra
-operands-right Trechkpt len = true
-operands-right (Mtspr spr ra) len = special-right spr ra
-operands-right (Mfspr rt spr) len = special-right spr rt
-operands-right (Ld rt i) len = access-right rt i len
-operands-right (Std ra i) len = access-right ra i len
-operands-right (Addi rt ra si) len = pair-right rt ra
-operands-right Disallowed len = true
-operands-right Interrupt len = true
-operands-right (Host pr tm) len = true
+unfolding row kind
+operands-right e len = fields-right (row (kind e)) (fields-of 0 e) len
+
+-- numbers 11 and 12
+unfoldable pub tm-instruction : Event → Bool
+unfolding row kind
+tm-instruction e = holds (row (kind e) .tm) (fields-of 0 e .x)
+
+unfoldable pub privileged : Event → Bool
+unfolding row kind
+privileged e = holds (row (kind e) .privileged) (fields-of 0 e .x)

@@ -1,8 +1,32 @@
-// The seventeen kinds of event, each with its operands and nothing else (document 01, "Events"). The thread is named beside the event.
-ghost use mathlib.Core.Path.{_≡_};
-ghost use Rattle.event.specs.Event.{kind, spr-right, pair-right, compare-right, special-right, access-right, operands-right};
+// The seventeen kinds of event, each with its operands and nothing else (document 01, "Events"); the fields of each, and a row for each kind.
+pub mod rows;
 
-// Operands take any value of their width: the step refuses what is out of range.
+ghost use mathlib.Core.Path.{_≡_};
+ghost use Prim.Native.Nat.{_≤_};
+ghost use Rattle.base.specs.Below.{bit};
+ghost use Rattle.event.specs.Rows.{row};
+ghost use Rattle.event.specs.Event.{fields, fields-of, event-of, kind, operands-right, tm-instruction, privileged};
+use rows::Row;
+use rows::Use;
+use rows::When;
+use rows::line;
+
+// Short names for the table of rows.
+const NO: Use = Use::No;
+
+const GPR: Use = Use::Gpr;
+
+const TO: Use = Use::To;
+
+const BF: Use = Use::Bf;
+
+const SPR: Use = Use::Spr;
+
+const NEVER: When = When::Never;
+
+const ALWAYS: When = When::Always;
+
+// Operands take any value of their width: the step refuses what is out of range. The thread is named beside the event.
 pub enum Event {
     Tbegin { r: bool },
     Tend { a: bool },
@@ -23,109 +47,168 @@ pub enum Event {
     Host { pr: bool, tm: bool },
 }
 
+// Kinds that a refusal names. specs/Event.antt has the same numbers for the definitions.
+pub const TEND: u8 = 2;
+
+pub const TRECLAIM: u8 = 8;
+
+pub const TRECHKPT: u8 = 9;
+
+pub const MTSPR: u8 = 10;
+
+pub const HOST: u8 = 17;
+
+// What a record holds, whatever its layout. X is SPR, BF or TO, else RT; RA is RT for mfspr; flags are R, A, L or PR + 2 x TM.
+#[repr(C)]
+pub struct Fields {
+    pub kind: u8,
+    pub thread: u8,
+    pub x: u8,
+    pub ra: u8,
+    pub rb: u8,
+    pub flags: u8,
+    pub index: u32,
+    pub si: u16,
+}
+
+// The row of a kind: X, RA, RB, largest flags, index, SI, TM instruction, privileged. A number that is no kind uses nothing.
+pub fn row(kind: u8) -> Row
+    ensures { λ r. ⌜ r ≡ row kind ⌝ }
+{
+    match kind {
+        1..=2 => line(NO, NO, NO, 1, false, false, ALWAYS, NEVER),
+        3 => line(NO, GPR, NO, 0, false, false, ALWAYS, NEVER),
+        4..=5 => line(TO, GPR, GPR, 0, false, false, ALWAYS, NEVER),
+        6 => line(NO, NO, NO, 1, false, false, ALWAYS, NEVER),
+        7 => line(BF, NO, NO, 0, false, false, ALWAYS, NEVER),
+        8 => line(NO, GPR, NO, 0, false, false, ALWAYS, ALWAYS),
+        9 => line(NO, NO, NO, 0, false, false, ALWAYS, ALWAYS),
+        10..=11 => line(SPR, GPR, NO, 0, false, false, ALWAYS, NEVER),
+        12 => line(GPR, NO, NO, 0, true, false, NEVER, NEVER),
+        13 => line(NO, GPR, NO, 0, true, false, NEVER, NEVER),
+        14 => line(GPR, GPR, NO, 0, false, true, NEVER, NEVER),
+        15..=16 => line(NO, NO, NO, 0, false, false, NEVER, NEVER),
+        17 => line(NO, NO, NO, 3, false, false, NEVER, NEVER),
+        _ => line(NO, NO, NO, 0, false, false, NEVER, NEVER),
+    }
+}
+
+// A single bit among the flags.
+fn flag(b: bool) -> u8
+    ensures { λ r. ⌜ r ≡ bit b ⌝ }
+    ensures { λ r. ⌜ r ≤ 1 ⌝ }
+{
+    base::bit(b) as u8
+}
+
+// Fields by their values, in the record's order.
+fn filled(kind: u8, thread: u8, x: u8, ra: u8, rb: u8, flags: u8, index: u32, si: u16) -> Fields
+    ensures { λ r. ⌜ r ≡ fields kind thread x ra rb flags index si ⌝ }
+{
+    Fields {
+        kind,
+        thread,
+        x,
+        ra,
+        rb,
+        flags,
+        index,
+        si,
+    }
+}
+
+// The fields of an event.
+pub fn fields_of(thread: u8, e: Event) -> Fields
+    ensures { λ r. ⌜ r ≡ fields-of thread e ⌝ }
+{
+    match e {
+        Event::Tbegin { r } => filled(1, thread, 0, 0, 0, flag(r), 0, 0),
+        Event::Tend { a } => filled(TEND, thread, 0, 0, 0, flag(a), 0, 0),
+        Event::Tabort { ra } => filled(3, thread, 0, ra, 0, 0, 0, 0),
+        Event::Tabortwc { to, ra, rb } => filled(4, thread, to, ra, rb, 0, 0, 0),
+        Event::Tabortdc { to, ra, rb } => filled(5, thread, to, ra, rb, 0, 0, 0),
+        Event::Tsr { l } => filled(6, thread, 0, 0, 0, flag(l), 0, 0),
+        Event::Tcheck { bf } => filled(7, thread, bf, 0, 0, 0, 0, 0),
+        Event::Treclaim { ra } => filled(TRECLAIM, thread, 0, ra, 0, 0, 0, 0),
+        Event::Trechkpt => filled(TRECHKPT, thread, 0, 0, 0, 0, 0, 0),
+        Event::Mtspr { spr, ra } => filled(MTSPR, thread, spr, ra, 0, 0, 0, 0),
+        Event::Mfspr { rt, spr } => filled(11, thread, spr, rt, 0, 0, 0, 0),
+        Event::Ld { rt, index } => filled(12, thread, rt, 0, 0, 0, index, 0),
+        Event::Std { ra, index } => filled(13, thread, 0, ra, 0, 0, index, 0),
+        Event::Addi { rt, ra, si } => filled(14, thread, rt, ra, 0, 0, 0, si),
+        Event::Disallowed => filled(15, thread, 0, 0, 0, 0, 0, 0),
+        Event::Interrupt => filled(16, thread, 0, 0, 0, 0, 0, 0),
+        Event::Host { pr, tm } => filled(HOST, thread, 0, 0, 0, flag(pr) + 2 * flag(tm), 0, 0),
+    }
+}
+
+// The event of fields of a right kind.
+pub fn event_of(f: Fields) -> Event
+    ensures { λ e. ⌜ e ≡ event-of f ⌝ }
+{
+    let kind = f.kind;
+    let x = f.x;
+    let ra = f.ra;
+    let rb = f.rb;
+    let index = f.index;
+    let si = f.si;
+    let flags = f.flags;
+    match kind {
+        1 => Event::Tbegin { r: flags == 1 },
+        2 => Event::Tend { a: flags == 1 },
+        3 => Event::Tabort { ra },
+        4 => Event::Tabortwc { to: x, ra, rb },
+        5 => Event::Tabortdc { to: x, ra, rb },
+        6 => Event::Tsr { l: flags == 1 },
+        7 => Event::Tcheck { bf: x },
+        8 => Event::Treclaim { ra },
+        9 => Event::Trechkpt,
+        10 => Event::Mtspr { spr: x, ra },
+        11 => Event::Mfspr { rt: ra, spr: x },
+        12 => Event::Ld { rt: x, index },
+        13 => Event::Std { ra, index },
+        14 => Event::Addi { rt: x, ra, si },
+        15 => Event::Disallowed,
+        16 => Event::Interrupt,
+        _ => {
+            let pr = flags % 2 == 1;
+            let tm = flags / 2 % 2 == 1;
+            Event::Host { pr, tm }
+        }
+    }
+}
+
 // The number of an event's kind.
 pub fn kind(e: Event) -> u8
     ensures { λ r. ⌜ r ≡ kind e ⌝ }
 {
-    match e {
-        Event::Tbegin { r: _ } => 1,
-        Event::Tend { a: _ } => 2,
-        Event::Tabort { ra: _ } => 3,
-        Event::Tabortwc {
-            to: _,
-            ra: _,
-            rb: _,
-        } => 4,
-        Event::Tabortdc {
-            to: _,
-            ra: _,
-            rb: _,
-        } => 5,
-        Event::Tsr { l: _ } => 6,
-        Event::Tcheck { bf: _ } => 7,
-        Event::Treclaim { ra: _ } => 8,
-        Event::Trechkpt => 9,
-        Event::Mtspr { spr: _, ra: _ } => 10,
-        Event::Mfspr { rt: _, spr: _ } => 11,
-        Event::Ld { rt: _, index: _ } => 12,
-        Event::Std { ra: _, index: _ } => 13,
-        Event::Addi {
-            rt: _,
-            ra: _,
-            si: _,
-        } => 14,
-        Event::Disallowed => 15,
-        Event::Interrupt => 16,
-        Event::Host { pr: _, tm: _ } => 17,
-    }
+    fields_of(0, e).kind
 }
 
-fn spr_right(spr: u8) -> bool
-    ensures { λ r. ⌜ r ≡ spr-right spr ⌝ }
-{
-    if spr < 128 {
-        return false;
-    }
-    spr <= 131
-}
-
-fn pair_right(a: u8, b: u8) -> bool
-    ensures { λ r. ⌜ r ≡ pair-right a b ⌝ }
-{
-    if 32 <= a {
-        return false;
-    }
-    b < 32
-}
-
-fn compare_right(to: u8, ra: u8, rb: u8) -> bool
-    ensures { λ r. ⌜ r ≡ compare-right to ra rb ⌝ }
-{
-    if 32 <= to {
-        return false;
-    }
-    pair_right(ra, rb)
-}
-
-fn special_right(spr: u8, r: u8) -> bool
-    ensures { λ b. ⌜ b ≡ special-right spr r ⌝ }
-{
-    if 32 <= r {
-        return false;
-    }
-    spr_right(spr)
-}
-
-fn access_right(r: u8, index: u32, len: usize) -> bool
-    ensures { λ b. ⌜ b ≡ access-right r index len ⌝ }
-{
-    if 32 <= r {
-        return false;
-    }
-    (index as usize) < len
-}
-
-// Used registers, BF, TO, SPR and index are in range, over a memory of len doublewords.
+// Number 4 is given unless the operands are right.
 pub fn operands_right(e: Event, len: usize) -> bool
     ensures { λ r. ⌜ r ≡ operands-right e len ⌝ }
 {
-    match e {
-        Event::Tbegin { r: _ } => true,
-        Event::Tend { a: _ } => true,
-        Event::Tabort { ra } => ra < 32,
-        Event::Tabortwc { to, ra, rb } => compare_right(to, ra, rb),
-        Event::Tabortdc { to, ra, rb } => compare_right(to, ra, rb),
-        Event::Tsr { l: _ } => true,
-        Event::Tcheck { bf } => bf < 8,
-        Event::Treclaim { ra } => ra < 32,
-        Event::Trechkpt => true,
-        Event::Mtspr { spr, ra } => special_right(spr, ra),
-        Event::Mfspr { rt, spr } => special_right(spr, rt),
-        Event::Ld { rt, index } => access_right(rt, index, len),
-        Event::Std { ra, index } => access_right(ra, index, len),
-        Event::Addi { rt, ra, si: _ } => pair_right(rt, ra),
-        Event::Disallowed => true,
-        Event::Interrupt => true,
-        Event::Host { pr: _, tm: _ } => true,
-    }
+    let f = fields_of(0, e);
+    rows::fields_right(row(f.kind), f, len)
+}
+
+// Number 11 is for these.
+pub fn tm_instruction(e: Event) -> bool
+    ensures { λ r. ⌜ r ≡ tm-instruction e ⌝ }
+{
+    let f = fields_of(0, e);
+    let r = row(f.kind);
+    let when = r.tm;
+    rows::holds(when, f.x)
+}
+
+// Number 12 is for these.
+pub fn privileged(e: Event) -> bool
+    ensures { λ r. ⌜ r ≡ privileged e ⌝ }
+{
+    let f = fields_of(0, e);
+    let r = row(f.kind);
+    let when = r.privileged;
+    rows::holds(when, f.x)
 }

@@ -5,9 +5,9 @@ use mathlib.Core.List.{List}
 use lib.ListN.{length}
 use Rattle.machine.specs.Valid.{sized, machine-number, first-of}
 use Rattle.step.specs.Step as events
-use Rattle.tape.specs.Fields.{fields, fields-of}
+use Rattle.event.specs.Event.{fields, fields-of}
+use Rattle.event.specs.declared.Fields.{Fields}
 use Rattle.tape.specs.Tape as tape
-use Rattle.tape.specs.declared.Fields.{Fields}
 use Rattle.tape.specs.declared.Read.{Read}
 use Rattle.tape.specs.declared.Read.the-variants.{Record, Refused}
 use Rattle.run.specs.Run as tape-run

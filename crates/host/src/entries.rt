@@ -9,7 +9,7 @@ use crate::RawEnded;
 use crate::RawRecord;
 use crate::VERSION;
 use crossing::RawMachine;
-use tape::Fields;
+use event::Fields;
 use tape::Read;
 
 // The version of the rules.
@@ -110,7 +110,7 @@ pub extern "C" fn naszeptan_read(bytes: &[u8]) -> RawRecord
     match found {
         Read::Record { thread, event } => RawRecord {
             answer: 0,
-            event: tape::writer::fields_of(thread, event),
+            event: event::fields_of(thread, event),
         },
         Read::Refused(n) => RawRecord {
             answer: n,

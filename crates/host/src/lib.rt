@@ -2,7 +2,7 @@
 pub mod entries;
 
 use crossing::RawMachine;
-use tape::Fields;
+use event::Fields;
 
 // The version of the rules: the model's version above, the landed change requests below.
 pub const VERSION: u32 = 0x0004_0000;

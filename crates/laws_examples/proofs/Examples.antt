@@ -10,7 +10,7 @@ use Rattle.base.specs.Below.{all-below, any-below, count-below}
 use Rattle.lines.specs.Lines as lineset
 use Rattle.transaction.specs.Transaction as transaction
 use Rattle.thread.specs.Thread.{recording, handling, felled}
-use Rattle.event.specs.Event.{kind, operands-right}
+use Rattle.event.specs.Event.{kind, operands-right, tm-instruction, privileged}
 use Rattle.power_common.specs.Common.{fails}
 use Rattle.power_aborts.specs.Compare as compare
 use Rattle.power_aborts.specs.Aborts as aborts
@@ -34,7 +34,7 @@ unfoldable pub computed : Bool
 unfolding all-below any-below count-below
     lineset.place lineset.empty lineset.has lineset.with lineset.meets lineset.footprint
     transaction.empty transaction.discard transaction.lookup-in transaction.loaded transaction.crowded transaction.full transaction.store-at transaction.commit-in transaction.written
-    recording handling felled kind operands-right fails compare.picked compare.holds
+    recording handling felled kind operands-right tm-instruction privileged fails compare.picked compare.holds
     effect begins.tend aborts.tabort aborts.tabort-if begins.tsuspend begins.tsr reclaims.treclaim special.get-spr special.mfspr
     access.ld access.logs access.meets-own access.std plain.addi plain.disallowed plain.interrupt
     fresh fresh-thread

@@ -1,21 +1,28 @@
--- What is refused changes nothing; every event has fields.
-use mathlib.Core.Path.{_≡_, refl}
+-- What is refused changes nothing; every event has fields; fields written and read back, and read and written back.
+use mathlib.Core.Path.{_≡_, refl, ap, _∙_}
 use mathlib.Core.Bool.{Bool, true, false}
 use mathlib.Core.List.{List}
-use Prim.Native.Nat.{ℕ}
-use lib.ListN.{length}
+use Prim.Native.Nat.{ℕ, _≤_}
+use lib.Dec.{ltb}
+use lib.ListN.{length, take, drop}
+use borrow.Author.Tests.{ltb-false, le-ltb}
 use Rattle.base.specs.Limits.{most-threads}
+use Rattle.base.proofs.Below.{no-number}
+use Rattle.event.specs.declared.Fields.{Fields}
 use Rattle.machine.specs.Valid.{sized}
+use Rattle.tape.specs.Tape as tape
 use Rattle.tape.specs.declared.Read.{Read}
 use Rattle.tape.specs.declared.Read.the-variants.{Record, Refused}
-use Rattle.laws_round.proofs.Round.{written}
+use Rattle.laws_round.specs.Round.{FieldsFit, Bytes}
+use Rattle.laws_round.proofs.Round.{written, taken-kept, reads-written, writes-read, keeps-rest, of-kind-meant, one-meaning, not-0}
 use Rattle.run.specs.Run.{goes-on}
 use Rattle.run.proofs.Steps as steps
 use Rattle.crossing.specs.Crossing.{right, machine-of}
 use Rattle.crossing.specs.declared.RawMachine.{RawMachine}
 use Rattle.laws_host.proofs.Crosses.{back}
-use Rattle.host.specs.Host.{number, met, outcome, event-read, step, run}
-use Rattle.laws_host.specs.Promises.{NoMachine, StopChangesNothing, EventCrosses}
+use Rattle.host.specs.Host as host
+use Rattle.host.specs.Host.{number, met, outcome, event-read, step, run, record-of, read, write-answer-of, write-answer, write}
+use Rattle.laws_host.specs.Promises.{NoMachine, StopChangesNothing, EventCrosses, ReadsWritten, WritesRead, KeepsRest}
 
 two : (m : RawMachine) (len : ℕ) → right m ≡ false → sized (machine-of m) len ≡ true → number m len ≡ 2
 unfolding number
@@ -46,3 +53,44 @@ stop-changes-nothing m mem f four h = met-stops m mem (event-read f) (right m) r
 
 pub event-crosses : EventCrosses
 event-crosses = written
+
+-- ---- one record
+
+long : (buf : List ℕ) → tape.write-answer buf ≡ 0 → tape.record-size ≤ length buf
+unfolding tape.write-answer
+long buf z = ltb-false (length buf) tape.record-size (no-number (ltb (length buf) tape.record-size) 9 0 z .0)
+
+-- by what the fields are judged to be
+read-back : (f : Fields) (buf : List ℕ) → FieldsFit f → (r : Read) → event-read f ≡ r → write-answer-of r buf ≡ 0
+    → record-of (tape.read (take tape.record-size (host.written r buf))) ≡ record { answer = 0; event = f }
+read-back f buf fits (Record w e) p z =
+    let k = taken-kept f w e p in
+    ap record-of (reads-written w e buf (long buf z) (rw k fits)) ∙ (λ j. record { answer = 0; event = k j })
+read-back f buf fits (Refused n) p z = absurd (not-0 _ (event-read f) n (of-kind-meant f true) p z)
+
+pub host-reads-written : ReadsWritten
+unfolding read write-answer write
+host-reads-written f buf fits z = read-back f buf fits (event-read f) refl z
+
+-- by what the bytes are read as
+write-back : (bs buf : List ℕ) → Bytes bs → tape.record-size ≤ length buf → (r : Read) → tape.read bs ≡ r → record-of r .answer ≡ 0
+    → (write-answer-of (event-read (record-of r .event)) buf ≡ 0)
+    × (take tape.record-size (host.written (event-read (record-of r .event)) buf) ≡ bs)
+unfolding tape.write-answer
+write-back bs buf h l (Record w e) p z =
+    let q = written w e in
+    (simp (q, le-ltb (length buf) tape.record-size l), rw q (writes-read bs w e buf h p l))
+write-back bs buf h l (Refused n) p z = absurd (not-0 _ (tape.read bs) n (one-meaning bs) p z)
+
+pub host-writes-read : WritesRead
+unfolding read write-answer write
+host-writes-read bs buf h z l = write-back bs buf h l (tape.read bs) refl z
+
+rest-kept : (r : Read) (buf : List ℕ)
+    → (length (host.written r buf) ≡ length buf) × (drop tape.record-size (host.written r buf) ≡ drop tape.record-size buf)
+rest-kept (Record w e) buf = keeps-rest w e buf
+rest-kept (Refused n) buf = (refl, refl)
+
+pub host-keeps-rest : KeepsRest
+unfolding write
+host-keeps-rest f buf = rest-kept (event-read f) buf

@@ -2,17 +2,19 @@
 use mathlib.Core.Path.{_≡_}
 use mathlib.Core.Bool.{true, false}
 use mathlib.Core.List.{List}
-use Prim.Native.Nat.{ℕ}
-use lib.ListN.{length}
+use Prim.Native.Nat.{ℕ, _≤_}
+use lib.ListN.{length, take, drop}
 use Rattle.base.specs.Limits.{most-threads}
+use Rattle.event.specs.Event.{fields-of}
 use Rattle.event.specs.declared.Event.{Event}
+use Rattle.event.specs.declared.Fields.{Fields}
 use Rattle.machine.specs.Valid.{sized}
-use Rattle.tape.specs.Fields.{fields-of}
-use Rattle.tape.specs.declared.Fields.{Fields}
+use Rattle.tape.specs.Tape.{record-size}
 use Rattle.tape.specs.declared.Read.the-variants.{Record}
+use Rattle.laws_round.specs.Round.{FieldsFit, Bytes}
 use Rattle.run.specs.Run.{goes-on}
 use Rattle.crossing.specs.Crossing.{right, machine-of}
-use Rattle.host.specs.Host.{outcome, event-read, step, result, run}
+use Rattle.host.specs.Host.{outcome, event-read, step, result, run, read, write-answer, write}
 use Rattle.crossing.specs.declared.RawMachine.{RawMachine}
 
 -- bits that are no machine are refused by 2, whatever the event and the tape, and nothing changes
@@ -30,3 +32,21 @@ StopChangesNothing =
 -- every event has fields that are read as it
 abbrev pub EventCrosses : Type 0
 EventCrosses = (w : ℕ) (e : Event) → event-read (fields-of w e) ≡ Record w e
+
+-- fields that fit their types and are written are read back
+abbrev pub ReadsWritten : Type 0
+ReadsWritten =
+    (f : Fields) (buf : List ℕ) → FieldsFit f → write-answer f buf ≡ 0
+    → read (take record-size (write f buf)) ≡ record { answer = 0; event = f }
+
+-- fields that were read are written as the bytes that they were read from, whatever stood in the buffer
+abbrev pub WritesRead : Type 0
+WritesRead =
+    (bs buf : List ℕ) → Bytes bs → read bs .answer ≡ 0 → record-size ≤ length buf
+    → (write-answer (read bs .event) buf ≡ 0) × (take record-size (write (read bs .event) buf) ≡ bs)
+
+-- nothing behind the record is touched
+abbrev pub KeepsRest : Type 0
+KeepsRest =
+    (f : Fields) (buf : List ℕ)
+    → (length (write f buf) ≡ length buf) × (drop record-size (write f buf) ≡ drop record-size buf)

@@ -18,10 +18,10 @@ use Rattle.transaction.specs.declared.Transaction.{Transaction}
 use Rattle.transaction.specs.declared.Write.{Write}
 use Rattle.transaction.specs.declared.Write.the-variants.{Unwritten, Doubleword, Log}
 use Rattle.transaction.proofs.Laws.{commit-length}
-use Rattle.event.specs.Event.{kind, operands-right}
+use Rattle.event.specs.Event.{trechkpt-kind, mtspr-kind, kind, operands-right}
 use Rattle.event.specs.declared.Event.{Event}
 use Rattle.event.specs.declared.Event.the-variants.{Tbegin, Tend, Tabort, Tabortwc, Tabortdc, Tsr, Tcheck, Treclaim, Trechkpt, Mtspr, Mfspr, Ld, Std, Addi, Disallowed, Interrupt, Host}
-use Rattle.event.proofs.Laws.{access-in}
+use Rattle.event.proofs.Laws.{ld-in, std-in}
 use Rattle.power_common.specs.Common.{passes, cr0-from-state, put-gpr, own-recording, fails, dooms, cr0-only, leveled, abort-cause}
 use Rattle.power_access.specs.Access.{tracked, ld-overflows, std-overflows, takes, joins, ld, logs, meets-own, std}
 use Rattle.power_aborts.specs.Aborts.{tabort, tabort-if}
@@ -174,7 +174,7 @@ module _ (t : Thread) (len : ℕ) where
       k = fork Kept (failed (t .control)) (λ p. (r .file, r .addresses)) (λ p. (r .file, r .addresses))
 
   -- trechkpt. and mtspr are done only in N
-  trechkpt-fine : (s : State) → bad-thing s (t .control) 9 ≡ false → Right s t len → Fine len (trechkpt t)
+  trechkpt-fine : (s : State) → bad-thing s (t .control) trechkpt-kind ≡ false → Right s t len → Fine len (trechkpt t)
   unfolding bad-thing trechkpt
   trechkpt-fine N b r =
       valid
@@ -184,7 +184,7 @@ module _ (t : Thread) (len : ℕ) where
   trechkpt-fine T b r = absurd (true≢false b)
   trechkpt-fine S b r = absurd (true≢false b)
 
-  mtspr-fine : (s : State) (spr ra : ℕ) → bad-thing s (t .control) 10 ≡ false → Right s t len → Fine len (mtspr t spr ra)
+  mtspr-fine : (s : State) (spr ra : ℕ) → bad-thing s (t .control) mtspr-kind ≡ false → Right s t len → Fine len (mtspr t spr ra)
   unfolding bad-thing mtspr put-spr
   mtspr-fine N spr ra b r =
       valid
@@ -257,22 +257,22 @@ module _ (t : Thread) (len : ℕ) where
   unfolding host
   host-fine pr tm r = valid (with-controls r _ (r .is) (r .addresses) (r .rules))
 
-pub not-bad : (k : Control) (n : ℕ) → refused-there k n ≡ 0 → bad-thing (k .msr .state) k n ≡ false
+pub not-bad : (k : Control) (e : Event) → refused-there k e ≡ 0 → bad-thing (k .msr .state) k (kind e) ≡ false
 unfolding refused-there
-not-bad k n p =
-    no-number (bad-thing (k .msr .state) k n) 12 0
-    (no-number (forbidden k n) 11 _ (no-number (off k n) 10 _ (no-number (host-in-t (k .msr .state) n) 4 _ p .1) .1) .1) .0
+not-bad k e p =
+    no-number (bad-thing (k .msr .state) k (kind e)) 12 0
+    (no-number (forbidden k e) 11 _ (no-number (off k e) 10 _ (no-number (host-in-t (k .msr .state) (kind e)) 4 _ p .1) .1) .1) .0
 
 pub effect-keeps : (e : Event) (t : Thread) (mem : List ℕ) → memory-sized (length mem) ≡ true → thread-valid t (length mem) ≡ true
-    → operands-right e (length mem) ≡ true → refused-there (t .control) (kind e) ≡ 0
+    → operands-right e (length mem) ≡ true → refused-there (t .control) e ≡ 0
     → thread-valid (effect e t mem .thread) (length mem) ≡ true
-unfolding effect operands-right kind tsr mfspr addi
+unfolding effect kind tsr mfspr addi
 effect-keeps e t mem z h o q = go e o q
   where
     r : Right (t .control .msr .state) t (length mem)
     r = right _ t _ refl h
 
-    go : (e : Event) → operands-right e (length mem) ≡ true → refused-there (t .control) (kind e) ≡ 0 → Does (length mem) (effect e t mem)
+    go : (e : Event) → operands-right e (length mem) ≡ true → refused-there (t .control) e ≡ 0 → Does (length mem) (effect e t mem)
     go (Tbegin b) o q = tbegin-fine t _ _ b r
     go (Tend a) o q = tend-fine t _ _ a r
     go (Tabort ra) o q = tabort-fine t _ _ _ r
@@ -281,11 +281,11 @@ effect-keeps e t mem z h o q = go e o q
     go (Tsr l) o q = fork (Fine (length mem)) l (λ p. tresume-fine t _ _ r) (λ p. tsuspend-fine t _ _ r)
     go (Tcheck bf) o q = tcheck-fine t _ bf r
     go (Treclaim ra) o q = treclaim-fine t _ ra r
-    go Trechkpt o q = trechkpt-fine t _ _ (not-bad _ 9 q) r
-    go (Mtspr spr ra) o q = mtspr-fine t _ _ spr ra (not-bad _ 10 q) r
+    go Trechkpt o q = trechkpt-fine t _ _ (not-bad _ Trechkpt q) r
+    go (Mtspr spr ra) o q = mtspr-fine t _ _ spr ra (not-bad _ (Mtspr spr ra) q) r
     go (Mfspr rt spr) o q = gpr-fine t _ rt _ r
-    go (Ld rt i) o q = let l = access-in rt i _ o .1 in ld-fine t _ i l (line-below i _ z l) _ rt mem r
-    go (Std ra i) o q = let l = access-in ra i _ o .1 in std-fine t _ i l (line-below i _ z l) _ _ r
+    go (Ld rt i) o q = let l = ld-in rt i _ o .1 in ld-fine t _ i l (line-below i _ z l) _ rt mem r
+    go (Std ra i) o q = let l = std-in ra i _ o .1 in std-fine t _ i l (line-below i _ z l) _ _ r
     go (Addi rt ra si) o q = gpr-fine t _ rt _ r
     go Disallowed o q = disallowed-fine t _ _ r
     go Interrupt o q = interrupt-fine t _ _ r

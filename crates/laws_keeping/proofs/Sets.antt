@@ -23,7 +23,7 @@ use Rattle.thread.specs.declared.Effect.{Effect}
 use Rattle.event.specs.Event.{operands-right}
 use Rattle.event.specs.declared.Event.{Event}
 use Rattle.event.specs.declared.Event.the-variants.{Tbegin, Tend, Tabort, Tabortwc, Tabortdc, Tsr, Tcheck, Treclaim, Trechkpt, Mtspr, Mfspr, Ld, Std, Addi, Disallowed, Interrupt, Host}
-use Rattle.event.proofs.Laws.{access-in}
+use Rattle.event.proofs.Laws.{ld-in, std-in}
 use Rattle.power_common.specs.Common.{cr0-from-state, fails, dooms}
 use Rattle.power_access.specs.Access.{takes, tracked, loads, ld-overflows, std-overflows, ld, logs, meets-own, std}
 use Rattle.power_aborts.specs.Aborts.{tabort, tabort-if}
@@ -161,7 +161,7 @@ module _ (t : Thread) (i : ℕ) (below : transaction.line i < lines) where
   std-leaves S v = shed (meets-own-sheds t i)
 
 effect-leaves : (e : Event) (t : Thread) (mem : List ℕ) → memory-sized (length mem) ≡ true → operands-right e (length mem) ≡ true → Leaves t (effect e t mem)
-unfolding effect operands-right treclaim trechkpt mtspr mfspr addi interrupt host transaction.discard
+unfolding effect treclaim trechkpt mtspr mfspr addi interrupt host transaction.discard
 effect-leaves (Tbegin r) t mem z o = shed (tbegin-sheds t (t .control .msr .state) r)
 effect-leaves (Tend a) t mem z o = shed (tend-sheds t (t .control .msr .state) a)
 effect-leaves (Tabort ra) t mem z o = shed (tabort-sheds t (t .control .msr .state) _)
@@ -173,8 +173,8 @@ effect-leaves (Treclaim ra) t mem z o = shed (inr refl)
 effect-leaves Trechkpt t mem z o = shed (inl refl)
 effect-leaves (Mtspr spr ra) t mem z o = shed (inl refl)
 effect-leaves (Mfspr rt spr) t mem z o = shed (inl refl)
-effect-leaves (Ld rt i) t mem z o = ld-leaves t i (line-below i _ z (access-in rt i _ o .1)) (t .control .msr .state) rt mem
-effect-leaves (Std ra i) t mem z o = std-leaves t i (line-below i _ z (access-in ra i _ o .1)) (t .control .msr .state) _
+effect-leaves (Ld rt i) t mem z o = ld-leaves t i (line-below i _ z (ld-in rt i _ o .1)) (t .control .msr .state) rt mem
+effect-leaves (Std ra i) t mem z o = std-leaves t i (line-below i _ z (std-in ra i _ o .1)) (t .control .msr .state) _
 effect-leaves (Addi rt ra si) t mem z o = shed (inl refl)
 effect-leaves Disallowed t mem z o = shed (disallowed-sheds t (t .control .msr .state))
 effect-leaves Interrupt t mem z o = shed (inl refl)

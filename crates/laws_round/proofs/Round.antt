@@ -1,25 +1,29 @@
--- Both round trips: of fields and events, of any layout, and of the tape's layout with its reader.
-use mathlib.Core.Path.{_≡_, refl, sym, ap, _∙_}
+-- Both round trips: of fields and events, of any layout, and of the tape's reader and writer; and the reader's numbers.
+use mathlib.Core.Path.{_≡_, refl, sym, ap, subst, _∙_}
 use mathlib.Core.Bool.{Bool, true, false, not, cond, _&&_, _||_}
-use mathlib.Core.List.{List, [], _∷_}
+use mathlib.Core.List.{List, [], _∷_, _++_}
 use mathlib.Core.Logic.{⊎-elim}
+use mathlib.Core.Option.{some, none}
 use Prim.Native.Nat.{ℕ, zero, suc, _+_, _*_, _/_, _%_, _≤_, _<_, _^_}
 use native.Mathlib.Nat.{eq-or-lt-of-le, le-of-suc-le-suc}
 use native.Mathlib.Omega.{arith}
-use lib.Dec.{eqb, leb}
-use lib.ListN.{length}
-use borrow.Author.Tests.{leb-true, eqb-true, eq-eqb, ne-eqb}
+use lib.Dec.{eqb, leb, ltb}
+use lib.ListN.{length, take, drop}
+use lib.Seq.{take-at, drop-at, take-all, length-sets}
+use borrow.Author.Tests.{leb-true, ltb-false, le-ltb, eqb-true, eq-eqb, ne-eqb}
 use Rattle.base.specs.Below.{bit}
 use Rattle.base.proofs.Below.{and-left, and-right, and-intro, digit-bit}
+use Rattle.event.specs.Rows.{rows, kind-right, row, used}
+use Rattle.event.specs.Event.{fields, fields-of, event-of}
 use Rattle.event.specs.declared.Event.{Event}
 use Rattle.event.specs.declared.Event.the-variants.{Tbegin, Tend, Tabort, Tabortwc, Tabortdc, Tsr, Tcheck, Treclaim, Trechkpt, Mtspr, Mfspr, Ld, Std, Addi, Disallowed, Interrupt, Host}
-use Rattle.tape.specs.Fields.{kind-right, one-of, uses-x, uses-ra, uses-rb, uses-index, uses-si, most-flags, clear-but, unused-clear, event-of, fields, fields-of}
-use Rattle.tape.specs.Tape.{record-size, first-byte, byte, two, four, fields-at, fixed-zero, bytes, judged, of-kind, read}
-use Rattle.laws_round.specs.Round.{InRange, FieldsFit, Bytes, EventKept, FieldsKept, Layout, Means, LayoutReadsWritten, LayoutWritesRead, accepts, ReadsWritten, WritesRead, OneRecord, OneMeaning, EditionTwo, PaperRecord}
-use Rattle.tape.proofs.Laws.{begun-right}
-use Rattle.tape.specs.declared.Fields.{Fields}
+use Rattle.event.specs.declared.Fields.{Fields}
+use Rattle.event.specs.declared.rows.Row.{Row}
+use Rattle.tape.specs.Tape.{record-size, first-byte, byte, two, four, fields-at, fixed-zero, bytes, unused-clear, judged, of-kind, read, number, values, write}
 use Rattle.tape.specs.declared.Read.{Read}
 use Rattle.tape.specs.declared.Read.the-variants.{Record, Refused}
+use Rattle.tape.proofs.Laws.{begun-right, over-all}
+use Rattle.laws_round.specs.Round.{FieldsFit, Bytes, EventKept, FieldsKept, Layout, Means, laid, LayoutReadsWritten, LayoutWritesRead, LayoutKeepsRest, accepts, ReadsWritten, WritesRead, WritesOver, KeepsRest, OneRecord, PaperRecord, NumbersInOrder, OneMeaning, EditionTwo}
 
 -- ---- what the reader takes
 
@@ -36,7 +40,7 @@ passed false n r w e p = absurd (refused n w e p)
 record Taken (f : Fields) (z : Bool) (w : ℕ) (e : Event) : Type 0 where
   right : kind-right (f .kind) ≡ true
   fixed : z ≡ true
-  clear : unused-clear f ≡ true
+  clear : unused-clear (row (f .kind)) f ≡ true
   thread : f .thread ≡ w
   event : event-of f ≡ e
 
@@ -44,7 +48,7 @@ taken : (f : Fields) (z : Bool) (w : ℕ) (e : Event) → of-kind f z ≡ Record
 unfolding of-kind judged
 taken f z w e p =
     let k = passed (kind-right (f .kind)) 8 _ w e p in
-    let c = passed (z && unused-clear f) 9 _ w e (k .1) in
+    let c = passed (z && unused-clear (row (f .kind)) f) 9 _ w e (k .1) in
     let q : Record (f .thread) (event-of f) ≡ Record w e = c .1 in
     record { right = k .0; fixed = and-left z _ (c .0); clear = and-right z _ (c .0); thread = cc q; event = cc q }
 
@@ -52,7 +56,7 @@ taken f z w e p =
 
 -- the fields of an event are taken as that event
 pub written : (w : ℕ) (e : Event) → of-kind (fields-of w e) true ≡ Record w e
-unfolding one-of clear-but unused-clear event-of fields-of judged of-kind
+unfolding kind-right row unused-clear event-of fields-of judged of-kind
 written w (Tbegin true) = refl
 written w (Tbegin false) = refl
 written w (Tend true) = refl
@@ -82,32 +86,6 @@ event-kept w e =
     let t = taken (fields-of w e) true w e (written w e) in
     (t .right, t .clear, t .event)
 
-fields-fit : (w : ℕ) (e : Event) → w < 256 → InRange e → FieldsFit (fields-of w e)
-unfolding fields-of
-fields-fit w (Tbegin true) h fits = omega arith
-fields-fit w (Tbegin false) h fits = omega arith
-fields-fit w (Tend true) h fits = omega arith
-fields-fit w (Tend false) h fits = omega arith
-fields-fit w (Tabort ra) h fits = omega arith
-fields-fit w (Tabortwc to ra rb) h fits = omega arith
-fields-fit w (Tabortdc to ra rb) h fits = omega arith
-fields-fit w (Tsr true) h fits = omega arith
-fields-fit w (Tsr false) h fits = omega arith
-fields-fit w (Tcheck bf) h fits = omega arith
-fields-fit w (Treclaim ra) h fits = omega arith
-fields-fit w Trechkpt h fits = omega arith
-fields-fit w (Mtspr spr ra) h fits = omega arith
-fields-fit w (Mfspr rt spr) h fits = omega arith
-fields-fit w (Ld rt i) h fits = omega arith
-fields-fit w (Std ra i) h fits = omega arith
-fields-fit w (Addi rt ra si) h fits = omega arith
-fields-fit w Disallowed h fits = omega arith
-fields-fit w Interrupt h fits = omega arith
-fields-fit w (Host true true) h fits = omega arith
-fields-fit w (Host true false) h fits = omega arith
-fields-fit w (Host false true) h fits = omega arith
-fields-fit w (Host false false) h fits = omega arith
-
 -- what holds of each number from 1 to n
 abbrev Each : (ℕ → Type 0) → ℕ → Type 0
 Each P zero = Unit {0}
@@ -118,21 +96,21 @@ each-at P zero k ps lo hi = absurd (omega arith)
 each-at P (suc n) k ps lo hi =
     ⊎-elim (λ e. rw e (ps .1)) (λ l. each-at P n k (ps .0) lo (le-of-suc-le-suc l)) (eq-or-lt-of-le hi)
 
--- the flags that an event keeps of a kind's
+-- the flags that an event keeps, by the largest of its row
 abbrev flags-kept : ℕ → ℕ → ℕ
-flags-kept k n =
-    cond (one-of k (1 ∷ 2 ∷ 6 ∷ [])) (bit (eqb n 1)) (cond (eqb k 17) (bit (eqb (n % 2) 1) + 2 * bit (eqb (n / 2 % 2) 1)) 0)
+flags-kept most n =
+    cond (eqb most 0) 0 (cond (eqb most 1) (bit (eqb n 1)) (cond (eqb most 3) (bit (eqb (n % 2) 1) + 2 * bit (eqb (n / 2 % 2) 1)) n))
 
--- what an event keeps of its fields: those that its kind uses, and its flags
-abbrev kept : ℕ → (w x ra rb n i si : ℕ) → Fields
-kept k w x ra rb n i si =
-    fields k w (cond (uses-x k) x 0) (cond (uses-ra k) ra 0) (cond (uses-rb k) rb 0) (flags-kept k n) (cond (uses-index k) i 0) (cond (uses-si k) si 0)
+-- what an event keeps of its fields: those that its row uses, and its flags
+abbrev kept : Row → ℕ → (w x ra rb n i si : ℕ) → Fields
+kept r k w x ra rb n i si =
+    fields k w (cond (used (r .x)) x 0) (cond (used (r .ra)) ra 0) (cond (used (r .rb)) rb 0) (flags-kept (r .flags) n) (cond (r .index) i 0) (cond (r .si) si 0)
 
 abbrev Keeps : ℕ → Type 0
-Keeps k = (λ w x ra rb n i si. fields-of w (event-of (fields k w x ra rb n i si))) ≡ kept k
+Keeps k = (λ w x ra rb n i si. fields-of w (event-of (fields k w x ra rb n i si))) ≡ kept (row k) k
 
-keeps : Each Keeps 17
-unfolding one-of event-of fields-of
+keeps : Each Keeps (length rows)
+unfolding row event-of fields-of
 keeps = (((((((((((((((((tt, refl), refl), refl), refl), refl), refl), refl), refl), refl), refl), refl), refl), refl), refl), refl), refl), refl)
 
 -- what is 0 unless it is used
@@ -148,16 +126,17 @@ two-bits (suc (suc zero)) h = refl
 two-bits (suc (suc (suc zero))) h = refl
 two-bits (suc (suc (suc (suc n)))) h = absurd (omega arith)
 
-flags-back : (k n : ℕ) → leb n (most-flags k) ≡ true → flags-kept k n ≡ n
-flags-back k n p = go (one-of k (1 ∷ 2 ∷ 6 ∷ [])) (eqb k 17) (leb-true n _ p)
+flags-back : (most n : ℕ) → n ≤ most → flags-kept most n ≡ n
+flags-back most n h = go (eqb most 0) (eqb most 1) (eqb most 3) refl refl refl
   where
-    go : (a b : Bool) → n ≤ cond a 1 (cond b 3 0)
-        → cond a (bit (eqb n 1)) (cond b (bit (eqb (n % 2) 1) + 2 * bit (eqb (n / 2 % 2) 1)) 0) ≡ n
-    go true b h = digit-bit n (omega arith)
-    go false true h = two-bits n h
-    go false false h = omega arith
+    go : (a b c : Bool) → eqb most 0 ≡ a → eqb most 1 ≡ b → eqb most 3 ≡ c
+        → cond a 0 (cond b (bit (eqb n 1)) (cond c (bit (eqb (n % 2) 1) + 2 * bit (eqb (n / 2 % 2) 1)) n)) ≡ n
+    go true b c p q r = let z = eqb-true most 0 p in omega arith
+    go false true c p q r = let z = eqb-true most 1 q in digit-bit n (omega arith)
+    go false false true p q r = let z = eqb-true most 3 r in two-bits n (omega arith)
+    go false false false p q r = refl
 
--- all six tests of clear-but
+-- all six tests of unused-clear
 six : (a b c d e g : Bool) → (a && b && c && d && e && g) ≡ true
     → (a ≡ true) × (b ≡ true) × (c ≡ true) × (d ≡ true) × (e ≡ true) × (g ≡ true)
 six a b c d e g p =
@@ -168,37 +147,66 @@ six a b c d e g p =
     (and-left a b p2, and-right a b p2, and-right (a && b) c p3, and-right (a && b && c) d p4, and-right (a && b && c && d) e p5, and-right (a && b && c && d && e) g p)
 
 pub fields-kept : FieldsKept
-unfolding clear-but unused-clear
-fields-kept f r c =
+unfolding kind-right unused-clear
+fields-kept f right c =
     let k = f .kind in
+    let r = row k in
     let p =
-    six (uses-x k || eqb (f .x) 0) (uses-ra k || eqb (f .ra) 0) (uses-rb k || eqb (f .rb) 0) (leb (f .flags) (most-flags k))
-    (uses-index k || eqb (f .index) 0) (uses-si k || eqb (f .si) 0) c in
-    let same = each-at Keeps 17 k keeps (leb-true 1 k (and-left (leb 1 k) _ r)) (leb-true k 17 (and-right (leb 1 k) _ r)) in
+    six (used (r .x) || eqb (f .x) 0) (used (r .ra) || eqb (f .ra) 0) (used (r .rb) || eqb (f .rb) 0) (leb (f .flags) (r .flags))
+    (r .index || eqb (f .index) 0) (r .si || eqb (f .si) 0) c in
+    let same = each-at Keeps (length rows) k keeps (leb-true 1 k (and-left (leb 1 k) _ right)) (leb-true k _ (and-right (leb 1 k) _ right)) in
     (λ j. same j (f .thread) (f .x) (f .ra) (f .rb) (f .flags) (f .index) (f .si))
     ∙ (λ j. record {
       kind = k;
       thread = f .thread;
-      x = used-kept (uses-x k) (f .x) (p .0) j;
-      ra = used-kept (uses-ra k) (f .ra) (p .1) j;
-      rb = used-kept (uses-rb k) (f .rb) (p .2) j;
-      flags = flags-back k (f .flags) (p .3) j;
-      index = used-kept (uses-index k) (f .index) (p .4) j;
-      si = used-kept (uses-si k) (f .si) (p .5) j;
+      x = used-kept (used (r .x)) (f .x) (p .0) j;
+      ra = used-kept (used (r .ra)) (f .ra) (p .1) j;
+      rb = used-kept (used (r .rb)) (f .rb) (p .2) j;
+      flags = flags-back (r .flags) (f .flags) (leb-true _ _ (p .3)) j;
+      index = used-kept (r .index) (f .index) (p .4) j;
+      si = used-kept (r .si) (f .si) (p .5) j;
     })
+
+-- fields that are taken are those of what they are taken as
+pub taken-kept : (f : Fields) (w : ℕ) (e : Event) → of-kind f true ≡ Record w e → fields-of w e ≡ f
+taken-kept f w e p =
+    let t = taken f true w e p in
+    (λ j. fields-of (sym (t .thread) j) (sym (t .event) j)) ∙ fields-kept f (t .right) (t .clear)
 
 -- ---- any layout
 
+module _ (l : Layout) (w : ℕ) (e : Event) (buf : List ℕ) where
+  abbrev cs : List ℕ
+  cs = l .to-bytes (fields-of w e)
+
+  -- a buffer that is long enough
+  module _ (h : l .size ≤ length buf) where
+    over : laid l w e buf ≡ cs ++ drop (l .size) buf
+    over =
+        let n = l .sized (fields-of w e) in
+        simp (le-ltb (length buf) (l .size) h) (over-all buf cs (omega arith) ∙ ap (λ (n : ℕ). cs ++ drop n buf) n)
+
+    front : take (l .size) (laid l w e buf) ≡ cs
+    front = ap (take (l .size)) over ∙ take-at cs _ (l .size) (l .sized _)
+
+  rest : (b : Bool) → ltb (length buf) (l .size) ≡ b → drop (l .size) (laid l w e buf) ≡ drop (l .size) buf
+  rest true p = simp p
+  rest false p = ap (drop (l .size)) (over (ltb-false _ _ p)) ∙ drop-at cs _ (l .size) (l .sized _)
+
+  length-kept : (b : Bool) → ltb (length buf) (l .size) ≡ b → length (laid l w e buf) ≡ length buf
+  length-kept true p = simp p
+  length-kept false p = simp (p, length-sets)
+
 pub layout-reads-written : LayoutReadsWritten
-layout-reads-written l w e h fits =
-    (l .sized _, l .accepted _, rw (l .fields-back (fields-of w e) (fields-fit w e h fits)) (written w e))
+layout-reads-written l w e buf h fits =
+    rw (front l w e buf h) (l .sized _, l .accepted _, rw (l .fields-back (fields-of w e) fits) (written w e))
 
 pub layout-writes-read : LayoutWritesRead
-layout-writes-read l bs w e h m =
-    let f = l .of-bytes bs in
-    let t = taken f true w e (m .2) in
-    (λ j. l .to-bytes (fields-of (sym (t .thread) j) (sym (t .event) j))) ∙ ap (l .to-bytes) (fields-kept f (t .right) (t .clear))
-    ∙ l .bytes-back bs h (m .0) (m .1)
+layout-writes-read l bs w e buf h m long =
+    front l w e buf long ∙ ap (l .to-bytes) (taken-kept (l .of-bytes bs) w e (m .2)) ∙ l .bytes-back bs h (m .0) (m .1)
+
+pub layout-keeps-rest : LayoutKeepsRest
+layout-keeps-rest l w e buf = (length-kept l w e buf _ refl, rest l w e buf _ refl)
 
 -- ---- the tape's layout
 
@@ -293,21 +301,67 @@ means-read bs w e m =
     begun-right bs (m .0) b ∙ ap (of-kind (fields-at bs)) z ∙ m .2
 
 pub reads-written : ReadsWritten
-reads-written w e h fits = means-read _ w e (layout-reads-written tape w e h fits)
+unfolding write
+reads-written w e buf h fits = means-read _ w e (layout-reads-written tape w e buf h fits)
 
 pub writes-read : WritesRead
-writes-read bs w e h p = layout-writes-read tape bs w e h (read-means bs w e p)
+unfolding write
+writes-read bs w e buf h p long = layout-writes-read tape bs w e buf h (read-means bs w e p) long
+
+pub keeps-rest : KeepsRest
+unfolding write
+keeps-rest w e buf = layout-keeps-rest tape w e buf
+
+pub writes-over : WritesOver
+writes-over bs w e h p =
+    let n = read-means bs w e p .0 in
+    sym (take-all record-size _ (omega (arith, keeps-rest w e bs .0))) ∙ writes-read bs w e bs h p (omega arith)
 
 pub one-record : OneRecord
-one-record bs cs w e hb hc p q = sym (writes-read bs w e hb p) ∙ writes-read cs w e hc q
+one-record bs cs w e hb hc p q =
+    let n = read-means bs w e p .0 in
+    sym (writes-read bs w e bs hb p (omega arith)) ∙ writes-read cs w e bs hc q (omega arith)
+
+pub paper-record : PaperRecord
+unfolding bytes fields-of write
+paper-record buf h = front tape 0 (Std 3 17) buf h
+
+-- ---- the reader's numbers
+
+number-chosen : (b : Bool) (n : ℕ) (r : Read) → number (cond (not b) (Refused n) r) ≡ cond (not b) n (number r)
+number-chosen true n r = refl
+number-chosen false n r = refl
+
+pub numbers-in-order : NumbersInOrder
+unfolding read of-kind judged fields-at
+numbers-in-order bs = simp number-chosen
+
+-- an answer has values if its number is 0, and no other has
+abbrev pub Meant : ℕ × Event → Read → Type 0
+Meant v r = values r ≡ cond (eqb (number r) 0) (some v) none
+
+meant : (v : ℕ × Event) (b : Bool) (n : ℕ) (r : Read) → eqb n 0 ≡ false → Meant v r → Meant v (cond (not b) (Refused n) r)
+meant v true n r z p = p
+meant v false n r z p = simp z
+
+pub of-kind-meant : (f : Fields) (z : Bool) → Meant (f .thread, event-of f) (of-kind f z)
+unfolding of-kind judged
+of-kind-meant f z =
+    meant _ (kind-right (f .kind)) 8 _ refl (meant _ (z && unused-clear (row (f .kind)) f) 9 _ refl refl)
 
 pub one-meaning : OneMeaning
-one-meaning bs v w d e p q = (cc, cc)
+unfolding read fields-at
+one-meaning bs =
+    meant _ (eqb (length bs) record-size) 6 _ refl
+    (meant _ (eqb (byte bs 0) first-byte) 7 _ refl (of-kind-meant (fields-at bs) (fixed-zero bs)))
+
+-- so no refusal is 0
+pub not-0 : (v : ℕ × Event) (r : Read) (n : ℕ) → Meant v r → r ≡ Refused n → n ≡ 0 → ⊥
+not-0 v r n m p z =
+    let q : Meant v (Refused 0) = subst (Meant v) (p ∙ ap Refused z) m in
+    let o : _≡_ {A = ℕ} 0 1 = cc q in
+    omega arith
 
 pub edition-two : EditionTwo
 unfolding read
 edition-two bs l h = rw (eq-eqb (length bs) record-size l, ne-eqb (byte bs 0) first-byte (λ p. omega arith))
-
-pub paper-record : PaperRecord
-unfolding bytes fields-of
-paper-record = refl

@@ -1,39 +1,24 @@
--- What is promised of a record written and read back, and read and written back, over any layout and over the tape's; proved in proofs/Round.antt.
+-- What is promised of a record written and read back, and read and written back, over any layout and by the tape's reader and writer; and of
+-- the reader's numbers. Proved in proofs/Round.antt.
 use mathlib.Core.Path.{_≡_}
-use mathlib.Core.Bool.{Bool, true, _&&_}
+use mathlib.Core.Bool.{Bool, true, not, cond, _&&_}
 use mathlib.Core.List.{List, [], _∷_}
-use Prim.Native.Nat.{ℕ, _<_, _^_}
-use lib.Dec.{eqb}
-use lib.ListN.{length}
+use mathlib.Core.Option.{some, none}
+use Prim.Native.Nat.{ℕ, _≤_, _<_, _^_}
+use lib.Dec.{eqb, ltb}
+use lib.ListN.{length, take, drop}
+use lib.Seq.{sets}
+use Rattle.event.specs.Rows.{kind-right, row}
+use Rattle.event.specs.Event.{fields-of, event-of}
 use Rattle.event.specs.declared.Event.{Event}
-use Rattle.event.specs.declared.Event.the-variants.{Tbegin, Tend, Tabort, Tabortwc, Tabortdc, Tsr, Tcheck, Treclaim, Trechkpt, Mtspr, Mfspr, Ld, Std, Addi, Disallowed, Interrupt, Host}
-use Rattle.tape.specs.Fields.{kind-right, unused-clear, event-of, fields-of}
-use Rattle.tape.specs.Tape.{record-size, first-byte, byte, fixed-zero, bytes, of-kind, read}
-use Rattle.tape.specs.declared.Fields.{Fields}
-use Rattle.tape.specs.declared.Read.the-variants.{Record, Refused}
+use Rattle.event.specs.declared.Event.the-variants.{Std}
+use Rattle.event.specs.declared.Fields.{Fields}
+use Rattle.tape.specs.Tape.{record-size, first-byte, byte, fields-at, fixed-zero, unused-clear, of-kind, read, number, values, write}
+use Rattle.tape.specs.declared.Read.the-variants.{Record}
 
 -- ---- values that fit their types
 
--- operands: a byte each, an index of 32 bits, an SI of 16
-abbrev pub InRange : Event → Type 0
-InRange (Tbegin r) = Unit {0}
-InRange (Tend a) = Unit {0}
-InRange (Tabort ra) = ra < 256
-InRange (Tabortwc to ra rb) = (to < 256) × (ra < 256) × (rb < 256)
-InRange (Tabortdc to ra rb) = (to < 256) × (ra < 256) × (rb < 256)
-InRange (Tsr l) = Unit {0}
-InRange (Tcheck bf) = bf < 256
-InRange (Treclaim ra) = ra < 256
-InRange Trechkpt = Unit {0}
-InRange (Mtspr spr ra) = (spr < 256) × (ra < 256)
-InRange (Mfspr rt spr) = (rt < 256) × (spr < 256)
-InRange (Ld rt i) = (rt < 256) × (i < 2 ^ 32)
-InRange (Std ra i) = (ra < 256) × (i < 2 ^ 32)
-InRange (Addi rt ra si) = (rt < 256) × (ra < 256) × (si < 2 ^ 16)
-InRange Disallowed = Unit {0}
-InRange Interrupt = Unit {0}
-InRange (Host pr tm) = Unit {0}
-
+-- a byte each, an index of 32 bits, an SI of 16
 pub record FieldsFit (f : Fields) : Type 0 where
   pub kind : f .kind < 256
   pub thread : f .thread < 256
@@ -50,16 +35,16 @@ Bytes bs = (n : ℕ) → byte bs n < 256
 
 -- ---- fields and events, whatever the layout
 
--- the fields of an event are of a right kind, clear where unused, and its own
+-- the fields of an event are of a right kind, clear where its row has no use, and its own
 abbrev pub EventKept : Type 0
 EventKept =
     (w : ℕ) (e : Event)
-    → (kind-right (fields-of w e .kind) ≡ true) × (unused-clear (fields-of w e) ≡ true) × (event-of (fields-of w e) ≡ e)
+    → (kind-right (fields-of w e .kind) ≡ true) × (unused-clear (row (fields-of w e .kind)) (fields-of w e) ≡ true) × (event-of (fields-of w e) ≡ e)
 
--- fields of a right kind that are clear where unused are those of their event
+-- fields of a right kind that are clear where its row has no use are those of their event
 abbrev pub FieldsKept : Type 0
 FieldsKept =
-    (f : Fields) → kind-right (f .kind) ≡ true → unused-clear f ≡ true → fields-of (f .thread) (event-of f) ≡ f
+    (f : Fields) → kind-right (f .kind) ≡ true → unused-clear (row (f .kind)) f ≡ true → fields-of (f .thread) (event-of f) ≡ f
 
 -- ---- any layout
 
@@ -78,40 +63,85 @@ pub record Layout : Type 0 where
 abbrev pub Means : Layout → List ℕ → ℕ → Event → Type 0
 Means l bs w e = (length bs ≡ l .size) × (l .accepts bs ≡ true) × (of-kind (l .of-bytes bs) true ≡ Record w e)
 
+-- what a layout's writer leaves in a buffer
+abbrev pub laid : Layout → ℕ → Event → List ℕ → List ℕ
+laid l w e buf = cond (ltb (length buf) (l .size)) buf (sets buf 0 (l .to-bytes (fields-of w e)))
+
+-- every event whose fields fit is read where it was written
 abbrev pub LayoutReadsWritten : Type 0
-LayoutReadsWritten = (l : Layout) (w : ℕ) (e : Event) → w < 256 → InRange e → Means l (l .to-bytes (fields-of w e)) w e
+LayoutReadsWritten =
+    (l : Layout) (w : ℕ) (e : Event) (buf : List ℕ) → l .size ≤ length buf → FieldsFit (fields-of w e)
+    → Means l (take (l .size) (laid l w e buf)) w e
 
+-- every record that is read is written as it was, whatever stood in the buffer
 abbrev pub LayoutWritesRead : Type 0
-LayoutWritesRead = (l : Layout) (bs : List ℕ) (w : ℕ) (e : Event) → Bytes bs → Means l bs w e → l .to-bytes (fields-of w e) ≡ bs
+LayoutWritesRead =
+    (l : Layout) (bs : List ℕ) (w : ℕ) (e : Event) (buf : List ℕ) → Bytes bs → Means l bs w e → l .size ≤ length buf
+    → take (l .size) (laid l w e buf) ≡ bs
 
--- ---- the tape's layout
+-- nothing behind the record is touched
+abbrev pub LayoutKeepsRest : Type 0
+LayoutKeepsRest =
+    (l : Layout) (w : ℕ) (e : Event) (buf : List ℕ)
+    → (length (laid l w e buf) ≡ length buf) × (drop (l .size) (laid l w e buf) ≡ drop (l .size) buf)
+
+-- ---- the tape's layout: its reader and its writer
 
 abbrev pub accepts : List ℕ → Bool
 accepts bs = eqb (byte bs 0) first-byte && fixed-zero bs
 
--- every event that is written is read
+-- the first 16 bytes after the writer are read as what was written
 abbrev pub ReadsWritten : Type 0
-ReadsWritten = (w : ℕ) (e : Event) → w < 256 → InRange e → read (bytes (fields-of w e)) ≡ Record w e
+ReadsWritten =
+    (w : ℕ) (e : Event) (buf : List ℕ) → record-size ≤ length buf → FieldsFit (fields-of w e)
+    → read (take record-size (write w e buf)) ≡ Record w e
 
--- every record that is read is what its event is written as
+-- writing what was read leaves exactly those bytes in the first 16, whatever stood there
 abbrev pub WritesRead : Type 0
-WritesRead = (bs : List ℕ) (w : ℕ) (e : Event) → Bytes bs → read bs ≡ Record w e → bytes (fields-of w e) ≡ bs
+WritesRead =
+    (bs : List ℕ) (w : ℕ) (e : Event) (buf : List ℕ) → Bytes bs → read bs ≡ Record w e → record-size ≤ length buf
+    → take record-size (write w e buf) ≡ bs
+
+-- so writing it over itself changes nothing
+abbrev pub WritesOver : Type 0
+WritesOver = (bs : List ℕ) (w : ℕ) (e : Event) → Bytes bs → read bs ≡ Record w e → write w e bs ≡ bs
+
+-- everything behind the 16th byte stays
+abbrev pub KeepsRest : Type 0
+KeepsRest =
+    (w : ℕ) (e : Event) (buf : List ℕ)
+    → (length (write w e buf) ≡ length buf) × (drop record-size (write w e buf) ≡ drop record-size buf)
 
 -- one meaning has one record
 abbrev pub OneRecord : Type 0
 OneRecord =
     (bs cs : List ℕ) (w : ℕ) (e : Event) → Bytes bs → Bytes cs → read bs ≡ Record w e → read cs ≡ Record w e → bs ≡ cs
 
--- one record has one meaning
-abbrev pub OneMeaning : Type 0
-OneMeaning =
-    (bs : List ℕ) (v w : ℕ) (d e : Event) → read bs ≡ Record v d → read bs ≡ Record w e → (v ≡ w) × (d ≡ e)
-
--- a record of edition two begins with its thread, 0 to 3, and is refused by 7
-abbrev pub EditionTwo : Type 0
-EditionTwo = (bs : List ℕ) → length bs ≡ record-size → byte bs 0 < 4 → read bs ≡ Refused 7
-
 -- document 01's own record, byte for byte
 abbrev pub PaperRecord : Type 0
 PaperRecord =
-    bytes (fields-of 0 (Std 3 17)) ≡ 0xE3 ∷ 0x0D ∷ 0 ∷ 0 ∷ 3 ∷ 0 ∷ 0 ∷ 0 ∷ 0 ∷ 0 ∷ 0 ∷ 0x11 ∷ 0 ∷ 0 ∷ 0 ∷ 0 ∷ []
+    (buf : List ℕ) → record-size ≤ length buf
+    → take record-size (write 0 (Std 3 17) buf) ≡ 0xE3 ∷ 0x0D ∷ 0 ∷ 0 ∷ 3 ∷ 0 ∷ 0 ∷ 0 ∷ 0 ∷ 0 ∷ 0 ∷ 0x11 ∷ 0 ∷ 0 ∷ 0 ∷ 0 ∷ []
+
+-- ---- the reader's numbers
+
+-- the first of 6, 7, 8, 9 whose test fails, or 0
+abbrev pub first-number : List ℕ → ℕ
+first-number bs =
+    cond (not (eqb (length bs) record-size)) 6
+    (cond (not (eqb (byte bs 0) first-byte)) 7
+    (cond (not (kind-right (byte bs 1))) 8
+    (cond (not (fixed-zero bs && unused-clear (row (byte bs 1)) (fields-at bs))) 9
+    0)))
+
+abbrev pub NumbersInOrder : Type 0
+NumbersInOrder = (bs : List ℕ) → number (read bs) ≡ first-number bs
+
+-- a record that is 0 has one meaning, the thread and the event of its fields; any other has none
+abbrev pub OneMeaning : Type 0
+OneMeaning =
+    (bs : List ℕ) → values (read bs) ≡ cond (eqb (number (read bs)) 0) (some (byte bs 2, event-of (fields-at bs))) none
+
+-- a record of edition two begins with its thread, 0 to 3, and is refused by 7
+abbrev pub EditionTwo : Type 0
+EditionTwo = (bs : List ℕ) → length bs ≡ record-size → byte bs 0 < 4 → number (read bs) ≡ 7

@@ -28,7 +28,7 @@ use Rattle.thread.specs.declared.State.the-variants.{N, T, S}
 use Rattle.thread.specs.declared.Control.{Control}
 use Rattle.thread.specs.declared.Thread.{Thread}
 use Rattle.thread.specs.declared.Effect.{Effect}
-use Rattle.event.specs.Event.{kind}
+use Rattle.event.specs.Event.{trechkpt-kind, mtspr-kind, kind}
 use Rattle.event.specs.declared.Event.{Event}
 use Rattle.event.specs.declared.Event.the-variants.{Tbegin, Tend, Tabort, Tabortwc, Tabortdc, Tsr, Tcheck, Treclaim, Trechkpt, Mtspr, Mfspr, Ld, Std, Addi, Disallowed, Interrupt, Host}
 use Rattle.power_common.specs.Common.{did, doing, quiet, passes, gpr, fails, abort-cause}
@@ -100,8 +100,8 @@ unfolding handling recording transaction.discard
 failure-same t r f es z cause exact at = simp z
 
 -- a Bad Thing is refused
-barred : (k : Control) (n : ℕ) → bad-thing (k .msr .state) k n ≡ true → refused-there k n ≡ 0 → ⊥
-barred k n b o = true≢false (sym b ∙ not-bad k n o)
+barred : (k : Control) (e : Event) → bad-thing (k .msr .state) k (kind e) ≡ true → refused-there k e ≡ 0 → ⊥
+barred k e b o = true≢false (sym b ∙ not-bad k e o)
 
 module _ (t : Thread) (r : Registers) (f : ℕ) (es : List Entry) (p : t .control .msr .state ≡ T) (z : failed (t .control) ≡ false)
     (size : length (t .transaction .log) ≡ length es) (q : (n : ℕ) → entry (t .transaction .log) n .index ≡ entry es n .index) where
@@ -189,7 +189,7 @@ module _ (t : Thread) (r : Registers) (f : ℕ) (es : List Entry) (p : t .contro
   here : (P : State → Type 0) → P T → P (t .control .msr .state)
   here P h = subst P (sym p) h
 
-  effect-even : (e : Event) (mem : List ℕ) → tells e t ≡ false → refused-there (t .control) (kind e) ≡ 0 → EvenEffect (effect e t mem) (effect e (beside t r f es) mem)
+  effect-even : (e : Event) (mem : List ℕ) → tells e t ≡ false → refused-there (t .control) e ≡ 0 → EvenEffect (effect e t mem) (effect e (beside t r f es) mem)
   unfolding effect tells kind bad-thing tsr mfspr addi host
   effect-even (Tbegin b) mem n o = here (λ s. Evenly (tbegin s t b) (tbegin s (beside t r f es) b)) (tbegin-even b)
   effect-even (Tend a) mem n o = here (λ s. EvenEffect (tend s t a) (tend s (beside t r f es) a)) (tend-even a n)
@@ -200,8 +200,8 @@ module _ (t : Thread) (r : Registers) (f : ℕ) (es : List Entry) (p : t .contro
   effect-even (Tsr l) mem n o = simp (not-false l n) (here (λ s. Evenly (tresume s t) (tresume s (beside t r f es))) tresume-even)
   effect-even (Tcheck bf) mem n o = tcheck-even bf
   effect-even (Treclaim ra) mem n o = treclaim-even ra (not-false _ n)
-  effect-even Trechkpt mem n o = absurd (barred (t .control) 9 (here (λ s. bad-thing s (t .control) 9 ≡ true) refl) o)
-  effect-even (Mtspr spr ra) mem n o = absurd (barred (t .control) 10 (here (λ s. bad-thing s (t .control) 10 ≡ true) refl) o)
+  effect-even Trechkpt mem n o = absurd (barred (t .control) Trechkpt (here (λ s. bad-thing s (t .control) trechkpt-kind ≡ true) refl) o)
+  effect-even (Mtspr spr ra) mem n o = absurd (barred (t .control) (Mtspr spr ra) (here (λ s. bad-thing s (t .control) mtspr-kind ≡ true) refl) o)
   effect-even (Mfspr rt spr) mem n o = goes p q
   effect-even (Ld rt i) mem n o = here (λ s. EvenEffect (ld s t rt i mem) (ld s (beside t r f es) rt i mem)) (ld-even rt i mem)
   effect-even (Std ra i) mem n o = here (λ s. EvenEffect (std s t (gpr t ra) i) (std s (beside t r f es) (gpr (beside t r f es) ra) i)) (std-even _ _ i)
@@ -213,7 +213,7 @@ module _ (t : Thread) (r : Registers) (f : ℕ) (es : List Entry) (p : t .contro
 -- two threads alike
 module _ {t u : Thread} (a : AlikeThread t u) where
   pub effect-alike : (e : Event) (mem : List ℕ) → length (t .transaction .log) ≡ length (u .transaction .log) → failed (t .control) ≡ false
-      → tells e t ≡ false → refused-there (t .control) (kind e) ≡ 0 → EvenEffect (effect e t mem) (effect e u mem)
+      → tells e t ≡ false → refused-there (t .control) e ≡ 0 → EvenEffect (effect e t mem) (effect e u mem)
   effect-alike e mem size z n o =
       subst (λ (x : Thread). EvenEffect (effect e t mem) (effect e x mem)) (is-beside a)
       (effect-even t (u .live) (u .cr0) (u .transaction .log) (a .transactional) z size (a .addresses) e mem n o)

@@ -18,7 +18,7 @@ use Rattle.thread.specs.declared.State.the-variants.{T}
 use Rattle.thread.specs.declared.Control.{Control}
 use Rattle.thread.specs.declared.Thread.{Thread}
 use Rattle.thread.specs.declared.Effect.{Effect}
-use Rattle.event.specs.Event.{kind, operands-right}
+use Rattle.event.specs.Event.{operands-right}
 use Rattle.event.specs.declared.Event.{Event}
 use Rattle.power_effect.specs.Effects.{effect}
 use Rattle.machine.specs.Machine.{thread, no-thread}
@@ -94,7 +94,7 @@ module _ (w : ℕ) (m n : Machine) (mem : List ℕ) (right : valid m (length mem
   unfolding refused-later
   refusal-same v e =
       refusal-valid m _ v e right
-      ∙ (λ j. cond (leb (a .count j) v) 3 (cond (not (operands-right e (length mem))) 4 (refused-there (at-control (near .each v) j) (kind e))))
+      ∙ (λ j. cond (leb (a .count j) v) 3 (cond (not (operands-right e (length mem))) 4 (refused-there (at-control (near .each v) j) e)))
       ∙ sym (refusal-valid n _ v e right')
 
   -- thread w is valid in both, and its transaction has not failed

@@ -10,7 +10,7 @@ use Rattle.base.specs.Below.{all-below, any-below, count-below}
 use Rattle.lines.specs.Lines as lineset
 use Rattle.transaction.specs.Transaction as transaction
 use Rattle.thread.specs.Thread.{recording, handling, felled}
-use Rattle.event.specs.Event.{kind, operands-right}
+use Rattle.event.specs.Event.{kind, operands-right, tm-instruction, privileged}
 use Rattle.power_common.specs.Common.{fails, dooms}
 use Rattle.power_aborts.specs.Compare as compare
 use Rattle.power_access.specs.Access.{ld, logs, meets-own, std}
@@ -59,7 +59,7 @@ computed : Bool
 unfolding all-below any-below count-below
     lineset.place lineset.empty lineset.has lineset.with lineset.meets lineset.footprint
     transaction.empty transaction.discard transaction.lookup-in transaction.loaded transaction.crowded transaction.full transaction.store-at transaction.written
-    recording handling felled kind operands-right fails dooms compare.picked compare.holds
+    recording handling felled kind operands-right tm-instruction privileged fails dooms compare.picked compare.holds
     effect tbegin tabort tabort-if tsuspend tsr ld logs meets-own std addi disallowed host
     fresh fresh-thread
     valid.sized valid.shaped valid.place-right valid.unused-zero valid.aligned valid.cr-small valid.fields-small valid.no-line valid.holds-nothing valid.live-rules valid.state-rules valid.indices-inside valid.line-inside valid.lines-inside valid.unlike valid.distinct valid.logs-line valid.line-logged valid.writes-logged valid.held-right valid.thread-valid valid.zero-gpr valid.zero-cr valid.zero-msr valid.zero-failure valid.zero-control valid.zero-thread valid.clash valid.clear-of valid.apart valid.thread-right valid.threads-right valid.valid

@@ -16,7 +16,7 @@ use Rattle.thread.specs.declared.Effect.{Effect}
 use Rattle.event.specs.Event.{operands-right}
 use Rattle.event.specs.declared.Event.{Event}
 use Rattle.event.specs.declared.Event.the-variants.{Tbegin, Tend, Tabort, Tabortwc, Tabortdc, Tsr, Tcheck, Treclaim, Trechkpt, Mtspr, Mfspr, Ld, Std, Addi, Disallowed, Interrupt, Host}
-use Rattle.event.proofs.Laws.{access-in}
+use Rattle.event.proofs.Laws.{ld-in, std-in}
 use Rattle.power_begins.specs.Begins.{commits, tend}
 use Rattle.power_access.specs.Access.{ld-overflows, std-overflows, ld, logs, std}
 use Rattle.power_effect.specs.Effects.{effect}
@@ -44,7 +44,7 @@ module _ (t : Thread) (i : ℕ) (below : line i < lines) where
   std-lined S v = below
 
 pub effect-lined : (e : Event) (t : Thread) (mem : List ℕ) → operands-right e (length mem) ≡ true → length mem ≤ line-size * lines → Touches (effect e t mem)
-unfolding effect operands-right
+unfolding effect
 effect-lined (Tbegin r) t mem o h = tt
 effect-lined (Tend a) t mem o h = tend-lined (t .control .msr .state) t a
 effect-lined (Tabort ra) t mem o h = tt
@@ -56,8 +56,8 @@ effect-lined (Treclaim ra) t mem o h = tt
 effect-lined Trechkpt t mem o h = tt
 effect-lined (Mtspr spr ra) t mem o h = tt
 effect-lined (Mfspr rt spr) t mem o h = tt
-effect-lined (Ld rt i) t mem o h = let l = access-in rt i _ o .1 in ld-lined t i (omega arith) (t .control .msr .state) rt mem
-effect-lined (Std ra i) t mem o h = let l = access-in ra i _ o .1 in std-lined t i (omega arith) (t .control .msr .state) _
+effect-lined (Ld rt i) t mem o h = let l = ld-in rt i _ o .1 in ld-lined t i (omega arith) (t .control .msr .state) rt mem
+effect-lined (Std ra i) t mem o h = let l = std-in ra i _ o .1 in std-lined t i (omega arith) (t .control .msr .state) _
 effect-lined (Addi rt ra si) t mem o h = tt
 effect-lined Disallowed t mem o h = tt
 effect-lined Interrupt t mem o h = tt

@@ -22,7 +22,7 @@ fn in_t(s: State) -> bool
 fn host_in_t(s: State, n: u8) -> bool
     ensures { λ r. ⌜ r ≡ host-in-t s n ⌝ }
 {
-    if n != 17 {
+    if n != event::HOST {
         return false;
     }
     in_t(s)
@@ -32,10 +32,10 @@ fn host_in_t(s: State, n: u8) -> bool
 fn bad_in_n(k: Control, n: u8) -> bool
     ensures { λ r. ⌜ r ≡ bad-thing State.N k n ⌝ }
 {
-    if n == 8 {
+    if n == event::TRECLAIM {
         return true;
     }
-    if n == 9 {
+    if n == event::TRECHKPT {
         return !thread::failed(k);
     }
     false
@@ -44,16 +44,16 @@ fn bad_in_n(k: Control, n: u8) -> bool
 fn bad_in_t(k: Control, n: u8) -> bool
     ensures { λ r. ⌜ r ≡ bad-thing State.T k n ⌝ }
 {
-    if n == 9 {
+    if n == event::TRECHKPT {
         return true;
     }
-    n == 10
+    n == event::MTSPR
 }
 
 fn bad_in_s(k: Control, n: u8) -> bool
     ensures { λ r. ⌜ r ≡ bad-thing State.S k n ⌝ }
 {
-    if n == 2 {
+    if n == event::TEND {
         return true;
     }
     bad_in_t(k, n)
@@ -73,41 +73,39 @@ fn bad_thing(k: Control, n: u8) -> bool
 }
 
 // Number 11.
-fn off(k: Control, n: u8) -> bool
-    ensures { λ r. ⌜ r ≡ off k n ⌝ }
+fn off(k: Control, e: Event) -> bool
+    ensures { λ r. ⌜ r ≡ off k e ⌝ }
 {
     let m = k.msr;
     if m.tm {
         return false;
     }
-    n <= 11
+    event::tm_instruction(e)
 }
 
 // Number 12.
-fn forbidden(k: Control, n: u8) -> bool
-    ensures { λ r. ⌜ r ≡ forbidden k n ⌝ }
+fn forbidden(k: Control, e: Event) -> bool
+    ensures { λ r. ⌜ r ≡ forbidden k e ⌝ }
 {
     let m = k.msr;
     if m.pr {
-        if n == 8 {
-            return true;
-        }
-        return n == 9;
+        return event::privileged(e);
     }
     false
 }
 
 // The tests on the event's own thread, in the order 5, 11, 12, 13.
-fn refused_there(k: Control, n: u8) -> u8
-    ensures { λ r. ⌜ r ≡ refused-there k n ⌝ }
+fn refused_there(k: Control, e: Event) -> u8
+    ensures { λ r. ⌜ r ≡ refused-there k e ⌝ }
 {
     let m = k.msr;
     let s = m.state;
+    let n = event::kind(e);
     if host_in_t(s, n) {
         return 5;
     }
-    let without = off(k, n);
-    let barred = forbidden(k, n);
+    let without = off(k, e);
+    let barred = forbidden(k, e);
     if without {
         return 11;
     }
@@ -133,5 +131,5 @@ pub fn refused_later(m: Machine, len: usize, w: usize, e: Event) -> u8
     }
     let t = m.threads[w];
     let k = t.control;
-    refused_there(k, event::kind(e))
+    refused_there(k, e)
 }

@@ -1,13 +1,16 @@
 -- One record of 16 bytes, read and written (document 01, "The tape").
 use Prim.Native.Nat.{ℕ, _+_, _*_, _/_, _%_}
-use mathlib.Core.Bool.{Bool, not, cond, _&&_}
+use mathlib.Core.Bool.{Bool, not, cond, _&&_, _||_}
 use mathlib.Core.List.{List, [], _∷_}
-use lib.Dec.{eqb, ltb}
+use mathlib.Core.Option.{Option, some, none}
+use lib.Dec.{eqb, leb, ltb}
 use lib.ListN.{getD, length}
 use lib.Seq.{sets}
 use Rattle.event.specs.declared.Event.{Event}
-use Rattle.tape.specs.Fields.{kind-right, unused-clear, event-of, fields-of}
-use Rattle.tape.specs.declared.Fields.{Fields}
+use Rattle.event.specs.declared.Fields.{Fields}
+use Rattle.event.specs.declared.rows.Row.{Row}
+use Rattle.event.specs.Rows.{kind-right, row, used}
+use Rattle.event.specs.Event.{event-of, fields-of}
 use Rattle.tape.specs.declared.Read.{Read}
 use Rattle.tape.specs.declared.Read.the-variants.{Record, Refused}
 
@@ -51,13 +54,19 @@ bytes f =
     ∷ f .index / 256 / 256 / 256 % 256 ∷ f .index / 256 / 256 % 256 ∷ f .index / 256 % 256 ∷ f .index % 256
     ∷ f .si / 256 % 256 ∷ f .si % 256 ∷ 0 ∷ 0 ∷ []
 
+-- every field that the row does not use is 0 and the flags are not too big
+unfoldable pub unused-clear : Row → Fields → Bool
+unused-clear r f =
+    (used (r .x) || eqb (f .x) 0) && (used (r .ra) || eqb (f .ra) 0) && (used (r .rb) || eqb (f .rb) 0)
+    && leb (f .flags) (r .flags) && (r .index || eqb (f .index) 0) && (r .si || eqb (f .si) 0)
+
 -- number 9, or the thread and the event: clear says that every unused field and every fixed 0 byte is 0 and the flags are not too big
 unfoldable pub judged : Fields → Bool → Read
 judged f clear = cond (not clear) (Refused 9) (Record (f .thread) (event-of f))
 
 -- numbers 8 and 9 in their order, or the thread and the event; zero says that every fixed 0 byte is 0
 unfoldable pub of-kind : Fields → Bool → Read
-of-kind f zero = cond (not (kind-right (f .kind))) (Refused 8) (judged f (zero && unused-clear f))
+of-kind f zero = cond (not (kind-right (f .kind))) (Refused 8) (judged f (zero && unused-clear (row (f .kind)) f))
 
 -- the reader: the numbers 6, 7, 8, 9 in their order, or the thread and the event
 unfoldable pub read : List ℕ → Read
@@ -66,10 +75,14 @@ read bs =
     (cond (not (eqb (byte bs 0) first-byte)) (Refused 7)
     (of-kind (fields-at bs) (fixed-zero bs)))
 
--- the number of an answer: 0 for a record, or the number by which it is refused
+-- document 01's number of each answer, and its values: a record is 0 with its thread and event, a refusal its number alone
 abbrev pub number : Read → ℕ
 number (Record w e) = 0
 number (Refused n) = n
+
+abbrev pub values : Read → Option (ℕ × Event)
+values (Record w e) = some (w, e)
+values (Refused n) = none
 
 -- the writer: number 10 for a buffer under 16 bytes, which stays; else the first 16 bytes
 unfoldable pub write-answer : List ℕ → ℕ

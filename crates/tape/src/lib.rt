@@ -11,19 +11,6 @@ pub const RECORD_SIZE: usize = 16;
 
 pub const FIRST_BYTE: u8 = 0xE3;
 
-// What a record holds, whatever its layout. X is SPR, BF or TO, else RT; RA is RT for mfspr; flags are R, A, L or PR + 2 x TM.
-#[repr(C)]
-pub struct Fields {
-    pub kind: u8,
-    pub thread: u8,
-    pub x: u8,
-    pub ra: u8,
-    pub rb: u8,
-    pub flags: u8,
-    pub index: u32,
-    pub si: u16,
-}
-
 // What the reader answers: the thread and the event of a record, or the number by which it is refused: 6, 7, 8 or 9.
 pub enum Read {
     Record { thread: u8, event: Event },

@@ -2,13 +2,13 @@
 ghost use mathlib.Core.Path.{_≡_};
 ghost use mathlib.Core.Bool.{_&&_};
 ghost use lib.ListN.{length};
-ghost use Rattle.tape.specs.Fields.{clear-but, event-of};
-ghost use Rattle.tape.specs.Tape.{record-size, two, four, fields-at, fixed-zero, judged, of-kind, read};
+ghost use Rattle.tape.specs.Tape.{record-size, two, four, fields-at, fixed-zero, unused-clear, judged, of-kind, read};
 use crate::FIRST_BYTE;
-use crate::Fields;
 use crate::RECORD_SIZE;
 use crate::Read;
-use event::Event;
+use event::Fields;
+use event::rows;
+use event::rows::Row;
 
 // Numbers of two and four bytes, highest first.
 fn two(a: u8, b: u8) -> u16
@@ -48,69 +48,27 @@ fn fixed_zero(s: &[u8]) -> bool
     (s[7] == 0) & (s[14] == 0) & (s[15] == 0)
 }
 
-// Every field but the used ones is 0, and the flags are not too big.
-fn clear_but(f: Fields, x: bool, ra: bool, rb: bool, flags: u8, index: bool, si: bool) -> bool
-    ensures { λ r. ⌜ r ≡ clear-but f x ra rb flags index si ⌝ }
+// Every field that the row does not use is 0, and the flags are not too big.
+fn unused_clear(r: Row, f: Fields) -> bool
+    ensures { λ b. ⌜ b ≡ unused-clear r f ⌝ }
 {
-    (x | (f.x == 0))
-        & (ra | (f.ra == 0))
-        & (rb | (f.rb == 0))
-        & (f.flags <= flags)
-        & (index | (f.index == 0))
-        & (si | (f.si == 0))
+    let x = r.x;
+    let ra = r.ra;
+    let rb = r.rb;
+    (rows::used(x) | (f.x == 0))
+        & (rows::used(ra) | (f.ra == 0))
+        & (rows::used(rb) | (f.rb == 0))
+        & (f.flags <= r.flags)
+        & (r.index | (f.index == 0))
+        & (r.si | (f.si == 0))
 }
 
-// The event of fields of a right kind.
-fn event_of(f: Fields) -> Event
-    ensures { λ e. ⌜ e ≡ event-of f ⌝ }
+// The thread and the event of a record that is 0 where its row wants it, else number 9.
+fn judged(f: Fields, zero: bool, r: Row) -> Read
+    ensures { λ a. ⌜ a ≡ judged f (zero && unused-clear r f) ⌝ }
 {
-    let kind = f.kind;
-    let x = f.x;
-    let ra = f.ra;
-    let rb = f.rb;
-    let index = f.index;
-    let si = f.si;
-    let flags = f.flags;
-    match kind {
-        1 => Event::Tbegin { r: flags == 1 },
-        2 => Event::Tend { a: flags == 1 },
-        3 => Event::Tabort { ra },
-        4 => Event::Tabortwc { to: x, ra, rb },
-        5 => Event::Tabortdc { to: x, ra, rb },
-        6 => Event::Tsr { l: flags == 1 },
-        7 => Event::Tcheck { bf: x },
-        8 => Event::Treclaim { ra },
-        9 => Event::Trechkpt,
-        10 => Event::Mtspr { spr: x, ra },
-        11 => Event::Mfspr { rt: ra, spr: x },
-        12 => Event::Ld { rt: x, index },
-        13 => Event::Std { ra, index },
-        14 => Event::Addi { rt: x, ra, si },
-        15 => Event::Disallowed,
-        16 => Event::Interrupt,
-        _ => {
-            let pr = flags % 2 == 1;
-            let tm = flags / 2 % 2 == 1;
-            Event::Host { pr, tm }
-        }
-    }
-}
-
-// The thread and the event of a record that is 0 where it must be, else number 9.
-fn judged(
-    f: Fields,
-    zero: bool,
-    x: bool,
-    ra: bool,
-    rb: bool,
-    flags: u8,
-    index: bool,
-    si: bool,
-) -> Read
-    ensures { λ r. ⌜ r ≡ judged f (zero && clear-but f x ra rb flags index si) ⌝ }
-{
-    if zero & clear_but(f, x, ra, rb, flags, index, si) {
-        let event = event_of(f);
+    if zero & unused_clear(r, f) {
+        let event = event::event_of(f);
         return Read::Record {
             thread: f.thread,
             event,
@@ -119,25 +77,13 @@ fn judged(
     Read::Refused(9)
 }
 
-// The kind chooses the used fields (X, RA, RB, the largest flags, index, SI); all other values are refused by 8.
+// The kind chooses the row; all other values are refused by 8.
 pub fn of_kind(f: Fields, zero: bool) -> Read
     ensures { λ r. ⌜ r ≡ of-kind f zero ⌝ }
 {
     let kind = f.kind;
     match kind {
-        1..=2 => judged(f, zero, false, false, false, 1, false, false),
-        3 => judged(f, zero, false, true, false, 0, false, false),
-        4..=5 => judged(f, zero, true, true, true, 0, false, false),
-        6 => judged(f, zero, false, false, false, 1, false, false),
-        7 => judged(f, zero, true, false, false, 0, false, false),
-        8 => judged(f, zero, false, true, false, 0, false, false),
-        9 => judged(f, zero, false, false, false, 0, false, false),
-        10..=11 => judged(f, zero, true, true, false, 0, false, false),
-        12 => judged(f, zero, true, false, false, 0, true, false),
-        13 => judged(f, zero, false, true, false, 0, true, false),
-        14 => judged(f, zero, true, true, false, 0, false, true),
-        15..=16 => judged(f, zero, false, false, false, 0, false, false),
-        17 => judged(f, zero, false, false, false, 3, false, false),
+        1..=17 => judged(f, zero, event::row(kind)),
         _ => Read::Refused(8),
     }
 }

@@ -1,8 +1,6 @@
 -- `power_effect::effect` meets its contract.
-use borrow.Author.Tests.{ltb-true}
 use native.Mathlib.Omega.{arith}
-use Rattle.event.specs.Event.{operands-right}
-use Rattle.event.proofs.Laws.{pair-registers, compare-registers, special-register, access-in}
+use Rattle.event.proofs.Laws.{tabort-register, tabortwc-registers, tabortdc-registers, tcheck-field, treclaim-register, mtspr-register, mfspr-register, ld-in, std-in, addi-registers}
 use Rattle.power_effect.specs.Effects.{effect}
 use borrow.Author.Needs.{needs}
 use Rattle.power_effect.proofs.effect.Statement.{statement}
@@ -27,11 +25,10 @@ enum-known-e-3 : tie.Need-enum-known-e-3
 enum-known-e-3 c = search needs
 
 tabort-requires : tie.Need-tabort-requires
-unfolding operands-right
 tabort-requires c κs =
     let e = c .before in
     let p = rw (e .e3 .given .1) at (e .before .before .before .pre .0) in
-    ltb-true _ 32 p
+    tabort-register (e .e3 .given .0 .0) _ p
 
 quiet-requires-2 : tie.Need-quiet-requires-2
 quiet-requires-2 c κs = search needs
@@ -40,11 +37,10 @@ enum-known-e-4 : tie.Need-enum-known-e-4
 enum-known-e-4 c = search needs
 
 tabortwc-requires : tie.Need-tabortwc-requires
-unfolding operands-right
 tabortwc-requires c κs =
     let e = c .before in
     let p = rw (e .e4 .given .1) at (e .before .before .before .pre .0) in
-    compare-registers (e .e4 .given .0 .0) (e .e4 .given .0 .1 .0) (e .e4 .given .0 .1 .1 .0) p
+    tabortwc-registers (e .e4 .given .0 .0) (e .e4 .given .0 .1 .0) (e .e4 .given .0 .1 .1 .0) _ p
 
 quiet-requires-3 : tie.Need-quiet-requires-3
 quiet-requires-3 c κs = search needs
@@ -53,11 +49,10 @@ enum-known-e-5 : tie.Need-enum-known-e-5
 enum-known-e-5 c = search needs
 
 tabortdc-requires : tie.Need-tabortdc-requires
-unfolding operands-right
 tabortdc-requires c κs =
     let e = c .before in
     let p = rw (e .e5 .given .1) at (e .before .before .before .pre .0) in
-    compare-registers (e .e5 .given .0 .0) (e .e5 .given .0 .1 .0) (e .e5 .given .0 .1 .1 .0) p
+    tabortdc-registers (e .e5 .given .0 .0) (e .e5 .given .0 .1 .0) (e .e5 .given .0 .1 .1 .0) _ p
 
 quiet-requires-4 : tie.Need-quiet-requires-4
 quiet-requires-4 c κs = search needs
@@ -75,11 +70,10 @@ enum-known-e-7 : tie.Need-enum-known-e-7
 enum-known-e-7 c = search needs
 
 tcheck-requires : tie.Need-tcheck-requires
-unfolding operands-right
 tcheck-requires c κs =
     let e = c .before in
     let p = rw (e .e7 .given .1) at (e .before .before .before .pre .0) in
-    ltb-true _ 8 p
+    tcheck-field (e .e7 .given .0 .0) _ p
 
 quiet-requires-6 : tie.Need-quiet-requires-6
 quiet-requires-6 c κs = search needs
@@ -88,11 +82,10 @@ enum-known-e-8 : tie.Need-enum-known-e-8
 enum-known-e-8 c = search needs
 
 treclaim-requires : tie.Need-treclaim-requires
-unfolding operands-right
 treclaim-requires c κs =
     let e = c .before in
     let p = rw (e .e8 .given .1) at (e .before .before .before .pre .0) in
-    ltb-true _ 32 p
+    treclaim-register (e .e8 .given .0 .0) _ p
 
 quiet-requires-7 : tie.Need-quiet-requires-7
 quiet-requires-7 c κs = search needs
@@ -110,11 +103,10 @@ enum-known-e-9 : tie.Need-enum-known-e-9
 enum-known-e-9 c = search needs
 
 mtspr-requires : tie.Need-mtspr-requires
-unfolding operands-right
 mtspr-requires c κs =
     let e = c .before in
     let p = rw (e .e9 .given .1) at (e .before .before .before .pre .0) in
-    special-register (e .e9 .given .0 .0) (e .e9 .given .0 .1 .0) p
+    mtspr-register (e .e9 .given .0 .0) (e .e9 .given .0 .1 .0) _ p
 
 quiet-requires-9 : tie.Need-quiet-requires-9
 quiet-requires-9 c κs = search needs
@@ -123,11 +115,10 @@ enum-known-e-10 : tie.Need-enum-known-e-10
 enum-known-e-10 c = search needs
 
 mfspr-requires : tie.Need-mfspr-requires
-unfolding operands-right
 mfspr-requires c κs =
     let e = c .before in
     let p = rw (e .e10 .given .1) at (e .before .before .before .pre .0) in
-    special-register (e .e10 .given .0 .1 .0) (e .e10 .given .0 .0) p
+    mfspr-register (e .e10 .given .0 .0) (e .e10 .given .0 .1 .0) _ p
 
 quiet-requires-10 : tie.Need-quiet-requires-10
 quiet-requires-10 c κs = search needs
@@ -136,39 +127,35 @@ enum-known-e-11 : tie.Need-enum-known-e-11
 enum-known-e-11 c = search needs
 
 ld-requires : tie.Need-ld-requires
-unfolding operands-right
 ld-requires c κs =
     let e = c .before in
     let s = e .before .before .before in
-    let h = access-in (e .e11 .given .0 .0) (e .e11 .given .0 .1 .0) _ (rw (e .e11 .given .1) at (s .pre .0)) in
+    let h = ld-in (e .e11 .given .0 .0) (e .e11 .given .0 .1 .0) _ (rw (e .e11 .given .1) at (s .pre .0)) in
     (s .pre .1 .1, (h .0, (omega (arith, h .1, s .pre .1 .0), h .1)))
 
 enum-known-e-12 : tie.Need-enum-known-e-12
 enum-known-e-12 c = search needs
 
 gpr-requires : tie.Need-gpr-requires
-unfolding operands-right
 gpr-requires c κs =
     let e = c .before in
-    access-in (e .e12 .given .0 .0) (e .e12 .given .0 .1 .0) _ (rw (e .e12 .given .1) at (e .before .before .before .pre .0)) .0
+    std-in (e .e12 .given .0 .0) (e .e12 .given .0 .1 .0) _ (rw (e .e12 .given .1) at (e .before .before .before .pre .0)) .0
 
 std-requires : tie.Need-std-requires
-unfolding operands-right
 std-requires c κs =
     let e = c .before .before in
     let s = e .before .before .before in
-    let h = access-in (e .e12 .given .0 .0) (e .e12 .given .0 .1 .0) _ (rw (e .e12 .given .1) at (s .pre .0)) in
+    let h = std-in (e .e12 .given .0 .0) (e .e12 .given .0 .1 .0) _ (rw (e .e12 .given .1) at (s .pre .0)) in
     (s .pre .1 .1, omega (arith, h .1, s .pre .1 .0))
 
 enum-known-e-13 : tie.Need-enum-known-e-13
 enum-known-e-13 c = search needs
 
 addi-requires : tie.Need-addi-requires
-unfolding operands-right
 addi-requires c κs =
     let e = c .before in
     let p = rw (e .e13 .given .1) at (e .before .before .before .pre .0) in
-    pair-registers (e .e13 .given .0 .0) (e .e13 .given .0 .1 .0) p
+    addi-registers (e .e13 .given .0 .0) (e .e13 .given .0 .1 .0) (e .e13 .given .0 .1 .1 .0) _ p
 
 quiet-requires-11 : tie.Need-quiet-requires-11
 quiet-requires-11 c κs = search needs

@@ -23,15 +23,14 @@ mul-t c = search needs
 element-copy-out-t : tie.Need-element-copy-out-t
 element-copy-out-t c = search needs
 
-kind-requires : tie.Need-kind-requires
-kind-requires c κs = search needs
-
 refused-there-requires : tie.Need-refused-there-requires
 refused-there-requires c κs = search needs
 
 returns-3 : tie.Need-returns-3
 unfolding refused-later
-returns-3 c = simp (c .refused-there .ensures, c .before .kind .ensures, sym (c .before .before .before .before .before .operands-right .ensures) ∙ not-false _ (c .before .before .before .before .if2 .left), lt-leb _ _ (c .before .before .before .before .before .before .if1 .left))
+returns-3 c =
+    let o = c .before .before .before in
+    simp (c .refused-there .ensures, sym (o .before .operands-right .ensures) ∙ not-false _ (o .if2 .left), lt-leb _ _ (o .before .before .if1 .left))
 
 pub refused-later-spec : {M : Type 1} → statement M
 refused-later-spec =
@@ -42,6 +41,5 @@ refused-later-spec =
     returns-2
     mul-t
     element-copy-out-t
-    kind-requires
     refused-there-requires
     returns-3)

@@ -5,12 +5,15 @@ use borrow.Author.Needs.{needs}
 use Rattle.refusal.proofs.refused_there.Statement.{statement}
 use Rattle.refusal.proofs.refused_there.Tie as tie
 
+kind-requires : tie.Need-kind-requires
+kind-requires c κs = search needs
+
 host-in-t-requires : tie.Need-host-in-t-requires
 host-in-t-requires c κs = search needs
 
 returns : tie.Need-returns
 unfolding refused-there
-returns c = simp (sym (c .before .host-in-t .ensures) ∙ c .if1 .taken)
+returns c = simp (← c .before .before .kind .ensures, sym (c .before .host-in-t .ensures) ∙ c .if1 .taken)
 
 off-requires : tie.Need-off-requires
 off-requires c κs = search needs
@@ -23,14 +26,14 @@ unfolding refused-there
 returns-2 c =
     let f = c .before in
     let h = f .before .before in
-    simp (sym (f .before .off .ensures) ∙ c .if2 .taken, sym (h .before .host-in-t .ensures) ∙ h .if1 .left)
+    simp (← h .before .before .kind .ensures, sym (f .before .off .ensures) ∙ c .if2 .taken, sym (h .before .host-in-t .ensures) ∙ h .if1 .left)
 
 returns-3 : tie.Need-returns-3
 unfolding refused-there
 returns-3 c =
     let f = c .before .before in
     let h = f .before .before in
-    simp (sym (f .forbidden .ensures) ∙ c .if3 .taken, sym (f .before .off .ensures) ∙ c .before .if2 .left, sym (h .before .host-in-t .ensures) ∙ h .if1 .left)
+    simp (← h .before .before .kind .ensures, sym (f .forbidden .ensures) ∙ c .if3 .taken, sym (f .before .off .ensures) ∙ c .before .if2 .left, sym (h .before .host-in-t .ensures) ∙ h .if1 .left)
 
 bad-thing-requires : tie.Need-bad-thing-requires
 bad-thing-requires c κs = search needs
@@ -42,6 +45,7 @@ returns-4 c =
     let f = b .before .before in
     let h = f .before .before in
     simp (
+      ← h .before .before .kind .ensures,
       sym (c .before .bad-thing .ensures) ∙ c .if4 .taken,
       sym (f .forbidden .ensures) ∙ b .if3 .left,
       sym (f .before .off .ensures) ∙ b .before .if2 .left,
@@ -55,6 +59,7 @@ returns-5 c =
     let f = b .before .before in
     let h = f .before .before in
     simp (
+      ← h .before .before .kind .ensures,
       sym (c .before .bad-thing .ensures) ∙ c .if4 .left,
       sym (f .forbidden .ensures) ∙ b .if3 .left,
       sym (f .before .off .ensures) ∙ b .before .if2 .left,
@@ -65,6 +70,7 @@ pub refused-there-spec : {M : Type 1} → statement M
 refused-there-spec =
     tie.close
     (tie.spec
+    kind-requires
     host-in-t-requires
     returns
     off-requires

@@ -14,6 +14,12 @@ returns c =
 fields-of-requires : tie.Need-fields-of-requires
 fields-of-requires c κs = search needs
 
+bytes-requires : tie.Need-bytes-requires
+bytes-requires c κs = search needs
+
+slice-aggregate-put : tie.Need-slice-aggregate-put
+slice-aggregate-put c = search needs
+
 put-requires : tie.Need-put-requires
 put-requires c κs = search needs
 
@@ -23,9 +29,20 @@ same-length c = search needs
 returns-2 : tie.Need-returns-2
 unfolding write-answer write
 returns-2 c =
-    let f = c .before .before .before .before in
+    let p = c .before .before in
+    let b = p .before .before .before in
+    let f = b .before in
     let long = le-ltb _ _ (f .before .if1 .left) in
-    (simp long, simp (c .before .before .put .ensures, f .fields-of .ensures, long))
+    (simp long, simp (p .put .ensures, b .bytes .ensures, f .fields-of .ensures, long))
 
 pub write-spec : {M : Type 1} → statement M
-write-spec = tie.close (tie.spec returns fields-of-requires put-requires same-length returns-2)
+write-spec =
+    tie.close
+    (tie.spec
+    returns
+    fields-of-requires
+    bytes-requires
+    slice-aggregate-put
+    put-requires
+    same-length
+    returns-2)

@@ -1,8 +1,8 @@
--- `tape::writer::fields_of` meets its contract.
-use Rattle.tape.specs.Fields.{fields-of}
+-- `event::fields_of` meets its contract.
+use Rattle.event.specs.Event.{fields-of}
 use borrow.Author.Needs.{needs}
-use Rattle.tape.proofs.writer.fields_of.Statement.{statement}
-use Rattle.tape.proofs.writer.fields_of.Tie as tie
+use Rattle.event.proofs.fields_of.Statement.{statement}
+use Rattle.event.proofs.fields_of.Tie as tie
 
 enum-known-e : tie.Need-enum-known-e
 enum-known-e c = search needs

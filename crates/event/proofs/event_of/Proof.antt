@@ -1,8 +1,8 @@
--- `tape::reader::event_of` meets its contract.
+-- `event::event_of` meets its contract.
 use borrow.Author.Tests.{ne-eqb}
-use Rattle.tape.specs.Fields.{event-of}
-use Rattle.tape.proofs.reader.event_of.Statement.{statement}
-use Rattle.tape.proofs.reader.event_of.Tie as tie
+use Rattle.event.specs.Event.{event-of}
+use Rattle.event.proofs.event_of.Statement.{statement}
+use Rattle.event.proofs.event_of.Tie as tie
 
 returns : tie.Need-returns
 unfolding event-of

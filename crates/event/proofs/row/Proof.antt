@@ -1,0 +1,125 @@
+-- `event::row` meets its contract.
+use mathlib.Core.Logic.{⊎-elim}
+use Rattle.event.specs.Rows.{row}
+use Rattle.event.proofs.Table.{chosen, neighbour, past, low, high}
+use borrow.Author.Needs.{needs}
+use Rattle.event.proofs.row.Statement.{statement}
+use Rattle.event.proofs.row.Tie as tie
+
+line-requires : tie.Need-line-requires
+line-requires c κs = search needs
+
+line-requires-2 : tie.Need-line-requires-2
+line-requires-2 c κs = search needs
+
+line-requires-3 : tie.Need-line-requires-3
+line-requires-3 c κs = search needs
+
+line-requires-4 : tie.Need-line-requires-4
+line-requires-4 c κs = search needs
+
+line-requires-5 : tie.Need-line-requires-5
+line-requires-5 c κs = search needs
+
+line-requires-6 : tie.Need-line-requires-6
+line-requires-6 c κs = search needs
+
+line-requires-7 : tie.Need-line-requires-7
+line-requires-7 c κs = search needs
+
+line-requires-8 : tie.Need-line-requires-8
+line-requires-8 c κs = search needs
+
+line-requires-9 : tie.Need-line-requires-9
+line-requires-9 c κs = search needs
+
+line-requires-10 : tie.Need-line-requires-10
+line-requires-10 c κs = search needs
+
+line-requires-11 : tie.Need-line-requires-11
+line-requires-11 c κs = search needs
+
+line-requires-12 : tie.Need-line-requires-12
+line-requires-12 c κs = search needs
+
+line-requires-13 : tie.Need-line-requires-13
+line-requires-13 c κs = search needs
+
+line-requires-14 : tie.Need-line-requires-14
+line-requires-14 c κs = search needs
+
+returns : tie.Need-returns
+unfolding row
+returns c = chosen 3 (c .line .ensures) (c .before .match .keys1)
+
+returns-2 : tie.Need-returns-2
+unfolding row
+returns-2 c = chosen 6 (c .line2 .ensures) (c .before .match .keys2)
+
+returns-3 : tie.Need-returns-3
+unfolding row
+returns-3 c = chosen 7 (c .line3 .ensures) (c .before .match .keys3)
+
+returns-4 : tie.Need-returns-4
+unfolding row
+returns-4 c = chosen 8 (c .line4 .ensures) (c .before .match .keys4)
+
+returns-5 : tie.Need-returns-5
+unfolding row
+returns-5 c = chosen 9 (c .line5 .ensures) (c .before .match .keys5)
+
+returns-6 : tie.Need-returns-6
+unfolding row
+returns-6 c = chosen 12 (c .line6 .ensures) (c .before .match .keys6)
+
+returns-7 : tie.Need-returns-7
+unfolding row
+returns-7 c = chosen 13 (c .line7 .ensures) (c .before .match .keys7)
+
+returns-8 : tie.Need-returns-8
+unfolding row
+returns-8 c = chosen 14 (c .line8 .ensures) (c .before .match .keys8)
+
+returns-9 : tie.Need-returns-9
+unfolding row
+returns-9 c = chosen 17 (c .line9 .ensures) (c .before .match .keys9)
+
+returns-10 : tie.Need-returns-10
+unfolding row
+returns-10 c =
+    neighbour 1 _ (chosen 1 (c .line10 .ensures)) (chosen 2 (c .line10 .ensures))
+    (c .before .before .if1 .left)
+    (c .before .if2 .taken)
+
+returns-11 : tie.Need-returns-11
+unfolding row
+returns-11 c =
+    let r = c .before .before .before .before .match .rest in
+    neighbour 4 _ (chosen 4 (c .line11 .ensures)) (chosen 5 (c .line11 .ensures))
+    (past 3 _ (c .before .before .if2 .left) (r .0 .0 .0 .0 .0 .0 .0 .0 .1))
+    (c .before .if3 .taken)
+
+returns-12 : tie.Need-returns-12
+unfolding row
+returns-12 c =
+    let r = c .before .before .before .before .before .match .rest in
+    neighbour 10 _ (chosen 10 (c .line12 .ensures)) (chosen 11 (c .line12 .ensures))
+    (past 9 _ (past 8 _ (past 7 _ (past 6 _ (c .before .before .if3 .left) (r .0 .0 .0 .0 .0 .0 .0 .1)) (r .0 .0 .0 .0 .0 .0 .1)) (r .0 .0 .0 .0 .0 .1)) (r .0 .0 .0 .0 .1))
+    (c .before .if4 .taken)
+
+returns-13 : tie.Need-returns-13
+unfolding row
+returns-13 c =
+    let r = c .before .before .before .before .before .before .match .rest in
+    neighbour 15 _ (chosen 15 (c .line13 .ensures)) (chosen 16 (c .line13 .ensures))
+    (past 14 _ (past 13 _ (past 12 _ (c .before .before .if4 .left) (r .0 .0 .0 .1)) (r .0 .0 .1)) (r .0 .1))
+    (c .before .if5 .taken)
+
+returns-14 : tie.Need-returns-14
+returns-14 c =
+    let r = c .before .before .match .rest in
+    ⊎-elim (λ w. low _ (c .line14 .ensures) (w .taken)) (λ w. high _ (c .line14 .ensures) (past 17 _ (w .4 .left) (r .1)))
+    (c .before .if1 .came)
+
+pub row-spec : {M : Type 1} → statement M
+row-spec = tie.close (tie.spec line-requires line-requires-2 line-requires-3 line-requires-4 line-requires-5 line-requires-6 line-requires-7 line-requires-8 line-requires-9 line-requires-10 line-requires-11 line-requires-12 line-requires-13 line-requires-14 returns returns-2 returns-3 returns-4 returns-5 returns-6 returns-7 returns-8 returns-9 returns-10 returns-11 returns-12 returns-13 returns-14)

@@ -1,0 +1,80 @@
+-- One row for each kind: the fields that it uses and their ranges, its largest flags, whether it is a TM instruction and whether it is
+-- privileged (document 01, "Events" and "The tape"). The numbers 4, 8, 9, 11 and 12 follow it.
+use Prim.Native.Nat.{ℕ, zero, suc}
+use mathlib.Core.Bool.{Bool, true, false, not, _&&_, _||_}
+use mathlib.Core.List.{List, [], _∷_}
+use lib.Dec.{leb, ltb}
+use lib.ListN.{getD, length}
+use Rattle.event.specs.declared.Fields.{Fields}
+use Rattle.event.specs.declared.rows.Use.{Use}
+use Rattle.event.specs.declared.rows.Use.the-variants.{No, Gpr, To, Bf, Spr}
+use Rattle.event.specs.declared.rows.When.{When}
+use Rattle.event.specs.declared.rows.When.the-variants.{Never, Always}
+use Rattle.event.specs.declared.rows.Row.{Row}
+
+abbrev pub line : (x ra rb : Use) (flags : ℕ) (index si : Bool) (tm privileged : When) → Row
+line x ra rb flags index si tm privileged =
+    record { x = x; ra = ra; rb = rb; flags = flags; index = index; si = si; tm = tm; privileged = privileged }
+
+-- X, RA, RB, largest flags, index, SI, TM instruction, privileged
+unfoldable pub rows : List Row
+rows =
+    line No No No 1 false false Always Never  -- 1 tbegin.: R
+    ∷ line No No No 1 false false Always Never  -- 2 tend.: A
+    ∷ line No Gpr No 0 false false Always Never  -- 3 tabort.
+    ∷ line To Gpr Gpr 0 false false Always Never  -- 4 tabortwc.
+    ∷ line To Gpr Gpr 0 false false Always Never  -- 5 tabortdc.
+    ∷ line No No No 1 false false Always Never  -- 6 tsr.: L
+    ∷ line Bf No No 0 false false Always Never  -- 7 tcheck
+    ∷ line No Gpr No 0 false false Always Always  -- 8 treclaim.
+    ∷ line No No No 0 false false Always Always  -- 9 trechkpt.
+    ∷ line Spr Gpr No 0 false false Always Never  -- 10 mtspr
+    ∷ line Spr Gpr No 0 false false Always Never  -- 11 mfspr: RA is RT
+    ∷ line Gpr No No 0 true false Never Never  -- 12 ld
+    ∷ line No Gpr No 0 true false Never Never  -- 13 std
+    ∷ line Gpr Gpr No 0 false true Never Never  -- 14 addi
+    ∷ line No No No 0 false false Never Never  -- 15 a disallowed instruction
+    ∷ line No No No 0 false false Never Never  -- 16 interrupt taken
+    ∷ line No No No 3 false false Never Never  -- 17 host: PR + 2 x TM
+    ∷ []
+
+-- number 8: the kinds are those that have a row
+unfoldable pub kind-right : ℕ → Bool
+unfolding rows
+kind-right k = leb 1 k && leb k (length rows)
+
+-- a number that is no kind uses nothing
+abbrev pub no-row : Row
+no-row = line No No No 0 false false Never Never
+
+unfoldable pub row : ℕ → Row
+unfolding rows
+row zero = no-row
+row (suc k) = getD rows k no-row
+
+-- ---- what a row tells
+
+abbrev pub used : Use → Bool
+used No = false
+used Gpr = true
+used To = true
+used Bf = true
+used Spr = true
+
+-- number 4: used registers to 31, TO to 31, BF to 7, SPR 128 to 131
+abbrev pub in-range : Use → ℕ → Bool
+in-range No v = true
+in-range Gpr v = ltb v 32
+in-range To v = ltb v 32
+in-range Bf v = ltb v 8
+in-range Spr v = leb 128 v && leb v 131
+
+-- number 4: each used field is in range, and a used index in a memory of len doublewords
+abbrev pub fields-right : Row → Fields → ℕ → Bool
+fields-right r f len =
+    in-range (r .x) (f .x) && in-range (r .ra) (f .ra) && in-range (r .rb) (f .rb) && (not (r .index) || ltb (f .index) len)
+
+-- whether it is so with X
+abbrev pub holds : When → ℕ → Bool
+holds Never x = false
+holds Always x = true

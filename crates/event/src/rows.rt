@@ -1,0 +1,105 @@
+// A kind's row: what it uses each field for, and what follows.
+ghost use mathlib.Core.Path.{_≡_};
+ghost use Rattle.event.specs.Rows.{line, used, in-range, fields-right, holds};
+use crate::Fields;
+
+// What a kind uses a field for.
+pub enum Use {
+    No,
+    Gpr,
+    To,
+    Bf,
+    Spr,
+}
+
+// Whether a kind is a TM instruction, or privileged: a function of X.
+pub enum When {
+    Never,
+    Always,
+}
+
+// The fields X, RA and RB, the largest flags, the fields index and SI, and what the kind is.
+pub struct Row {
+    pub x: Use,
+    pub ra: Use,
+    pub rb: Use,
+    pub flags: u8,
+    pub index: bool,
+    pub si: bool,
+    pub tm: When,
+    pub privileged: When,
+}
+
+// A row by its values, in the table's order.
+pub fn line(
+    x: Use,
+    ra: Use,
+    rb: Use,
+    flags: u8,
+    index: bool,
+    si: bool,
+    tm: When,
+    privileged: When,
+) -> Row
+    ensures { λ r. ⌜ r ≡ line x ra rb flags index si tm privileged ⌝ }
+{
+    Row {
+        x,
+        ra,
+        rb,
+        flags,
+        index,
+        si,
+        tm,
+        privileged,
+    }
+}
+
+// Whether the field is used at all: one that is not is 0 in a record.
+pub fn used(u: Use) -> bool
+    ensures { λ r. ⌜ r ≡ used u ⌝ }
+{
+    match u {
+        Use::No => false,
+        Use::Gpr => true,
+        Use::To => true,
+        Use::Bf => true,
+        Use::Spr => true,
+    }
+}
+
+// A field as its use wants it.
+fn in_range(u: Use, v: u8) -> bool
+    ensures { λ r. ⌜ r ≡ in-range u v ⌝ }
+{
+    match u {
+        Use::No => true,
+        Use::Gpr => v < 32,
+        Use::To => v < 32,
+        Use::Bf => v < 8,
+        Use::Spr => (128 <= v) & (v <= 131),
+    }
+}
+
+// Each used field is in range, and a used index in a memory of len doublewords.
+pub fn fields_right(r: Row, f: Fields, len: usize) -> bool
+    ensures { λ b. ⌜ b ≡ fields-right r f len ⌝ }
+{
+    let x = r.x;
+    let ra = r.ra;
+    let rb = r.rb;
+    in_range(x, f.x)
+        & in_range(ra, f.ra)
+        & in_range(rb, f.rb)
+        & (!r.index | ((f.index as usize) < len))
+}
+
+// Whether it is so with X.
+pub fn holds(w: When, x: u8) -> bool
+    ensures { λ r. ⌜ r ≡ holds w x ⌝ }
+{
+    match w {
+        When::Never => false,
+        When::Always => true,
+    }
+}
