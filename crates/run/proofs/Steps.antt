@@ -20,7 +20,7 @@ use Rattle.tape.specs.declared.Read.{Read}
 use Rattle.tape.specs.declared.Read.the-variants.{Record, Refused}
 use Rattle.run.specs.Run.{Result, result, in-front, goes-on, record-at, reads, counted, one, play, tape-number, run}
 use Rattle.run.specs.Steps.{fed, events, all-go, RunIsSteps, StopChangesNothing, CountedWent, Stops}
-use Rattle.run.proofs.Laws.{is-counted, uncounted, play-stops, play-goes}
+use Rattle.run.proofs.Laws.{uncounted, play-stops, play-goes}
 use Rattle.run.proofs.Answers.{effect-done}
 
 -- an event that is not refused goes on

@@ -8,7 +8,7 @@ use Rattle.machine.specs.Machine.{fresh, fresh-memory}
 use Rattle.tape.specs.Tape.{record-size}
 use Rattle.run.specs.Run.{run}
 
--- the longest input that is run; no text is longer
+-- the longest input that is run; no text is longer (`text-fits`)
 abbrev pub longest : ℕ
 longest = 65536
 

@@ -13,7 +13,7 @@ use Rattle.machine.specs.Machine.{fresh, fresh-memory}
 use Rattle.machine.specs.declared.Machine.{Machine}
 use Rattle.run.specs.Run.{Result, run}
 use Rattle.run.specs.declared.Ended.{Ended}
-use Rattle.text.specs.Inner.{Appended}
+use Rattle.text.specs.Inner.{Appended, most-records}
 use Rattle.text.specs.Text.{end-line, lines, text}
 use Rattle.text.proofs.Laws.{alias, joined, from-start, read-back, lines-fit, answers-read}
 use Rattle.text.proofs.text.Statement.{statement}
@@ -35,13 +35,13 @@ from-read d = d .before .before .before
 ran : (u : tie.After-run) → u .run .result ≡ whole (from-run u) .ended
 ran u = u .run .ensures .0 ∙ ap (λ (m : Machine). run m fresh-memory (bytes (from-run u)) .ended) (u .before .before .before .fresh .ensures)
 
-ran-answers : (u : tie.After-run) → u .run .last .1 .1 .1 .0 ≡ sets (replicate 4096 0) 0 (whole (from-run u) .answers)
+ran-answers : (u : tie.After-run) → u .run .last .1 .1 .1 .0 ≡ sets (replicate most-records 0) 0 (whole (from-run u) .answers)
 ran-answers u =
     u .run .ensures .1 .1
-    ∙ ap (λ (m : Machine). sets (replicate 4096 0) 0 (run m fresh-memory (bytes (from-run u)) .answers)) (u .before .before .before .fresh .ensures)
+    ∙ ap (λ (m : Machine). sets (replicate most-records 0) 0 (run m fresh-memory (bytes (from-run u)) .answers)) (u .before .before .before .fresh .ensures)
 
 -- its answers fit into their buffer
-few : (c : tie.Else2) → length (whole c .answers) ≤ 4096
+few : (c : tie.Else2) → length (whole c .answers) ≤ most-records
 few c = omega (arith, c .before .if1 .left, answers-read (bytes c) (eq-eqb _ _ (c .if2 .left)) .1)
 
 -- as many are read back as there are
@@ -56,7 +56,7 @@ all-read d =
 given-back : (d : tie.After-read-of) → take (d .read-of .result) (from-read d .run .last .1 .1 .1 .0) ≡ whole (from-run (from-read d)) .answers
 given-back d =
     ap (take (d .read-of .result)) (ran-answers (from-read d))
-    ∙ read-back (replicate 4096 0) _ (d .read-of .result) (all-read d) (few (from-run (from-read d)))
+    ∙ read-back (replicate most-records 0) _ (d .read-of .result) (all-read d) (few (from-run (from-read d)))
 
 -- and each has its line
 lined : (l : tie.After-lines)
