@@ -4,7 +4,7 @@ use Prim.Native.Nat.{ℕ, zero, suc, _<_, _≤_}
 use native.Mathlib.Nat.{le-of-suc-le-suc}
 use native.Mathlib.Omega.{arith}
 use native.Mathlib.Decide.{ℕ-discrete}
-use lib.ListN.{List·getD-eq-default}
+use lib.ListN.{length, List·getD-eq-default}
 use Rattle.event.specs.Rows.{rows, row, no-row}
 use Rattle.event.specs.declared.rows.Row.{Row}
 
@@ -30,7 +30,7 @@ unfolding row
 low zero p h = p
 low (suc k) p h = absurd (omega arith)
 
-pub high : (k : ℕ) {r : Row} → r ≡ no-row → 17 < k → r ≡ row k
+pub high : (k : ℕ) {r : Row} → r ≡ no-row → length rows < k → r ≡ row k
 unfolding row
 high zero p h = absurd (omega arith)
 high (suc k) p h = p ∙ sym (List·getD-eq-default rows no-row (le-of-suc-le-suc h))

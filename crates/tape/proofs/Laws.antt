@@ -9,7 +9,7 @@ use native.Mathlib.Numerals.{add-one}
 use lib.ListN.{length, take, drop, getD, set}
 use lib.Seq.{sets, sets-eq, paste-suc}
 use borrow.Author.Tests.{le-leb, lt-leb, eq-eqb}
-use Rattle.event.specs.Rows.{kind-right, row}
+use Rattle.event.specs.Rows.{rows, kind-right, row}
 use Rattle.event.specs.declared.Fields.{Fields}
 use Rattle.tape.specs.Tape.{record-size, first-byte, byte, fields-at, fixed-zero, unused-clear, judged, of-kind, read}
 use Rattle.tape.specs.declared.Read.{Read}
@@ -22,17 +22,17 @@ begun-right bs l b = rw (eq-eqb (length bs) record-size l, eq-eqb (byte bs 0) fi
 
 -- a kind that has a row, and those that have none
 pub kind-in : (f : Fields) (zero : Bool) (r : Read) → r ≡ judged f (zero && unused-clear (row (f .kind)) f)
-    → 1 ≤ f .kind → f .kind ≤ 17 → r ≡ of-kind f zero
+    → 1 ≤ f .kind → f .kind ≤ length rows → r ≡ of-kind f zero
 unfolding kind-right of-kind
-kind-in f zero r p lo hi = p ∙ simp (le-leb 1 (f .kind) lo, le-leb (f .kind) 17 hi)
+kind-in f zero r p lo hi = p ∙ simp (le-leb 1 (f .kind) lo, le-leb (f .kind) (length rows) hi)
 
 pub low : (f : Fields) (zero : Bool) → f .kind < 1 → Refused 8 ≡ of-kind f zero
 unfolding kind-right of-kind
 low f zero h = simp (lt-leb 1 (f .kind) h)
 
-pub high : (f : Fields) (zero : Bool) → 17 < f .kind → Refused 8 ≡ of-kind f zero
+pub high : (f : Fields) (zero : Bool) → length rows < f .kind → Refused 8 ≡ of-kind f zero
 unfolding kind-right of-kind
-high f zero h = let l : 1 ≤ f .kind = omega arith in simp (le-leb 1 (f .kind) l, lt-leb (f .kind) 17 h)
+high f zero h = let l : 1 ≤ f .kind = omega arith in simp (le-leb 1 (f .kind) l, lt-leb (f .kind) (length rows) h)
 
 -- bytes laid over a buffer's start: the first i of them, one more, all
 abbrev pub over : List ℕ → List ℕ → ℕ → List ℕ

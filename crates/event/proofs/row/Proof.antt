@@ -116,6 +116,7 @@ returns-13 c =
     (c .before .if5 .taken)
 
 returns-14 : tie.Need-returns-14
+unfolding row
 returns-14 c =
     let r = c .before .before .match .rest in
     ⊎-elim (λ w. low _ (c .line14 .ensures) (w .taken)) (λ w. high _ (c .line14 .ensures) (past 17 _ (w .4 .left) (r .1)))

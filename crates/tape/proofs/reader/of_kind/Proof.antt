@@ -1,7 +1,6 @@
 -- `tape::reader::of_kind` meets its contract.
-use mathlib.Core.Path.{_∙_}
 use native.Mathlib.Nat.{le-of-suc-le-suc}
-use Rattle.tape.specs.Tape.{judged, unused-clear}
+use Rattle.event.specs.Rows.{kind-right}
 use Rattle.tape.proofs.Laws.{kind-in, low, high}
 use borrow.Author.Needs.{needs}
 use Rattle.tape.proofs.reader.of_kind.Statement.{statement}
@@ -14,6 +13,7 @@ judged-requires : tie.Need-judged-requires
 judged-requires c κs = search needs
 
 returns : tie.Need-returns
+unfolding kind-right
 returns c =
     let t = c .before .before in
     kind-in _ _ _ (simp (c .before .row .ensures) at (c .judged .ensures)) (t .before .if1 .left) (le-of-suc-le-suc (t .if2 .taken))
@@ -22,6 +22,7 @@ returns-2 : tie.Need-returns-2
 returns-2 c = low _ _ (c .if1 .taken)
 
 returns-3 : tie.Need-returns-3
+unfolding kind-right
 returns-3 c = high _ _ (c .if2 .left)
 
 pub of-kind-spec : {M : Type 1} → statement M
