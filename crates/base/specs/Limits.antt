@@ -1,4 +1,4 @@
--- The limits of document 01, "The machine". src/lib.rt has the same numbers for the code.
+-- The limits (rules M1 to M11, V1, V9). src/lib.rt has the same numbers for the code.
 use Prim.Native.Nat.{ℕ, _*_}
 
 -- doublewords of a line; lines of the largest memory; words of a line set, of 64 lines each
@@ -27,3 +27,10 @@ most-levels = 15
 
 abbrev pub most-threads : ℕ
 most-threads = 4
+
+-- general registers, and the CR fields that a checkpoint has: 1 to 7
+abbrev pub gprs : ℕ
+gprs = 32
+
+abbrev pub cr-fields : ℕ
+cr-fields = 7

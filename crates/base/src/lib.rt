@@ -1,4 +1,6 @@
-// The limits of document 01 ("The machine"). specs/Limits.antt has the same numbers for the definitions: change both together.
+// The limits (rules M1 to M11, V1, V9). specs/Limits.antt has the same numbers for the definitions: change both together.
+
+pub mod answer;
 
 ghost use mathlib.Core.Path.{_≡_};
 ghost use Prim.Native.Nat.{_<_};
@@ -22,6 +24,11 @@ pub const PLACES: usize = 64;
 
 // The deepest nesting.
 pub const LEVELS: u64 = 15;
+
+// General registers, and the CR fields that a checkpoint has: 1 to 7.
+pub const GPRS: usize = 32;
+
+pub const CR_FIELDS: usize = 7;
 
 // Thread records of a machine.
 pub const THREADS: usize = 4;

@@ -1,4 +1,4 @@
--- Conflicts with the other threads (document 01, "Loads, stores and conflicts", (c)).
+-- Conflicts with the other threads (rule A3).
 use Prim.Native.Nat.{ℕ, zero, suc}
 use mathlib.Core.Bool.{Bool, false, cond, _&&_, _||_}
 use mathlib.Core.List.{List}

@@ -1,4 +1,4 @@
-// Conflicts with the other threads (document 01, "Loads, stores and conflicts", (c)).
+// Conflicts with the other threads (rule A3).
 ghost use mathlib.Core.Path.{_≡_};
 ghost use Prim.Native.Nat.{_<_};
 ghost use Rattle.base.specs.Limits.{most-threads};

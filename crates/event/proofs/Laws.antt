@@ -2,7 +2,8 @@
 use mathlib.Core.Path.{_≡_}
 use mathlib.Core.Bool.{Bool, true, not, _&&_, _||_}
 use Prim.Native.Nat.{ℕ, _<_}
-use borrow.Author.Tests.{ltb-true}
+use native.Mathlib.Omega.{arith}
+use borrow.Author.Tests.{ltb-true, leb-true}
 use lib.Dec.{ltb}
 use Rattle.base.proofs.Below.{and-left, and-right}
 use Rattle.event.specs.Rows.{row, in-range, fields-right}
@@ -46,7 +47,7 @@ tabortdc-registers to ra rb len p = let t = tests _ len p in (ltb-true ra 32 (t 
 
 pub tcheck-field : (bf len : ℕ) → operands-right (Tcheck bf) len ≡ true → bf < 8
 unfolding row kind
-tcheck-field bf len p = ltb-true bf 8 (tests _ len p .x)
+tcheck-field bf len p = omega (arith, leb-true bf 7 (tests _ len p .x))
 
 pub treclaim-register : (ra len : ℕ) → operands-right (Treclaim ra) len ≡ true → ra < 32
 unfolding row kind

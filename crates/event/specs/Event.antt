@@ -1,4 +1,4 @@
--- The seventeen kinds of event (document 01, "Events"), the fields of each, and what its row tells.
+-- The seventeen kinds of event (rules E1 to E17), the fields of each, and what its row tells.
 use Prim.Native.Nat.{ℕ, _+_, _*_, _/_, _%_}
 use mathlib.Core.Bool.{Bool, cond}
 use lib.Dec.{eqb}

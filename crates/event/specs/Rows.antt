@@ -1,10 +1,11 @@
 -- One row for each kind: the fields that it uses and their ranges, its largest flags, whether it is a TM instruction and whether it is
--- privileged (document 01, "Events" and "The tape"). The numbers 4, 8, 9, 11 and 12 follow it.
+-- privileged (docs/RULES.md, the table of kinds). The numbers 4, 8, 9, 11 and 12 follow it.
 use Prim.Native.Nat.{ℕ, zero, suc}
 use mathlib.Core.Bool.{Bool, true, false, not, _&&_, _||_}
 use mathlib.Core.List.{List, [], _∷_}
 use lib.Dec.{leb, ltb}
 use lib.ListN.{getD, length}
+use Rattle.base.specs.Limits.{gprs, cr-fields}
 use Rattle.event.specs.declared.Fields.{Fields}
 use Rattle.event.specs.declared.rows.Use.{Use}
 use Rattle.event.specs.declared.rows.Use.the-variants.{No, Gpr, To, Bf, Spr}
@@ -64,9 +65,9 @@ used Spr = true
 -- number 4: used registers to 31, TO to 31, BF to 7, SPR 128 to 131
 abbrev pub in-range : Use → ℕ → Bool
 in-range No v = true
-in-range Gpr v = ltb v 32
+in-range Gpr v = ltb v gprs
 in-range To v = ltb v 32
-in-range Bf v = ltb v 8
+in-range Bf v = leb v cr-fields
 in-range Spr v = leb 128 v && leb v 131
 
 -- number 4: each used field is in range, and a used index in a memory of len doublewords

@@ -1,4 +1,4 @@
-// The seventeen kinds of event, each with its operands and nothing else (document 01, "Events"); the fields of each, and a row for each kind.
+// The seventeen kinds of event, each with its operands and nothing else (rules E1 to E17); the fields of each, and a row for each kind.
 pub mod rows;
 
 ghost use mathlib.Core.Path.{_≡_};

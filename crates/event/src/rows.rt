@@ -2,6 +2,8 @@
 ghost use mathlib.Core.Path.{_≡_};
 ghost use Rattle.event.specs.Rows.{line, used, in-range, fields-right, holds};
 use crate::Fields;
+use base::CR_FIELDS;
+use base::GPRS;
 
 // What a kind uses a field for.
 pub enum Use {
@@ -74,9 +76,9 @@ fn in_range(u: Use, v: u8) -> bool
 {
     match u {
         Use::No => true,
-        Use::Gpr => v < 32,
+        Use::Gpr => (v as usize) < GPRS,
         Use::To => v < 32,
-        Use::Bf => v < 8,
+        Use::Bf => v as usize <= CR_FIELDS,
         Use::Spr => (128 <= v) & (v <= 131),
     }
 }

@@ -1,8 +1,9 @@
--- What a host calls: the tests and the step, the run, the reader and the writer of document 01, on plain numbers.
+-- What a host calls: the tests and the step, the run, the reader and the writer, on plain numbers (rules H1 to H7).
 use Prim.Native.Nat.{ℕ}
 use mathlib.Core.Bool.{true, cond}
 use mathlib.Core.List.{List}
 use lib.ListN.{length}
+use Rattle.base.specs.Answers as answer
 use Rattle.machine.specs.Valid.{sized, machine-number, first-of}
 use Rattle.step.specs.Step as events
 use Rattle.event.specs.Event.{fields, fields-of}
@@ -23,7 +24,7 @@ version = 0x00040000
 
 -- the numbers 1 and 2 of any bits: bits that are no machine are 2 where the size is right
 unfoldable pub number : RawMachine → ℕ → ℕ
-number m len = cond (right m) (machine-number (machine-of m) len) (cond (sized (machine-of m) len) 2 1)
+number m len = cond (right m) (machine-number (machine-of m) len) (cond (sized (machine-of m) len) answer.no-machine answer.size)
 
 -- what a step leaves: its answer with the machine, and memory
 pub record RawOutcome : Type 0 where
@@ -64,7 +65,7 @@ run m mem bytes = cond (right m) (crossed-result (tape-run.run (machine-of m) me
 
 -- a record's fields with 0, or a number with zeros
 abbrev pub record-of : Read → RawRecord
-record-of (Record w e) = record { answer = 0; event = fields-of w e }
+record-of (Record w e) = record { answer = answer.done; event = fields-of w e }
 record-of (Refused n) = record { answer = n; event = fields 0 0 0 0 0 0 0 0 }
 
 unfoldable pub read : List ℕ → RawRecord

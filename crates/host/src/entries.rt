@@ -8,6 +8,7 @@ use crate::RawDone;
 use crate::RawEnded;
 use crate::RawRecord;
 use crate::VERSION;
+use base::answer;
 use crossing::RawMachine;
 use event::Fields;
 use tape::Read;
@@ -36,9 +37,9 @@ pub extern "C" fn naszeptan_valid(m: RawMachine, len: usize) -> u8
         return machine::valid::number(crossing::machine_of(m), len);
     }
     if machine::valid::sized(crossing::machine_of(m), len) {
-        return 2;
+        return answer::NO_MACHINE;
     }
-    1
+    answer::SIZE
 }
 
 // The first of two refusals: k where there is one.
@@ -109,7 +110,7 @@ pub extern "C" fn naszeptan_read(bytes: &[u8]) -> RawRecord
     let found = tape::reader::read(bytes);
     match found {
         Read::Record { thread, event } => RawRecord {
-            answer: 0,
+            answer: answer::DONE,
             event: event::fields_of(thread, event),
         },
         Read::Refused(n) => RawRecord {

@@ -117,7 +117,7 @@ abbrev pub OneRecord : Type 0
 OneRecord =
     (bs cs : List ℕ) (w : ℕ) (e : Event) → Bytes bs → Bytes cs → read bs ≡ Record w e → read cs ≡ Record w e → bs ≡ cs
 
--- document 01's own record, byte for byte
+-- the record of rule T5, byte for byte
 abbrev pub PaperRecord : Type 0
 PaperRecord =
     (buf : List ℕ) → record-size ≤ length buf

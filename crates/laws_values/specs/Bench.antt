@@ -1,4 +1,4 @@
--- K1 to K10 of document 01 ("Bench values") as one table: a machine, events, and what is expected after them.
+-- K1 to K10 as one table (docs/RULES.md, bench values): a machine, events, and what is expected after them.
 use Prim.Native.Nat.{ℕ, zero, suc, _*_, _^_, _-_}
 use mathlib.Core.Bool.{Bool, true, false, _&&_}
 use mathlib.Core.List.{List, [], _∷_, _++_}

@@ -1,1 +1,1 @@
-// K1 to K10 of document 01 ("Bench values"), proved in proofs/Bench.antt. No code.
+// K1 to K10 of docs/RULES.md, proved in proofs/Bench.antt. No code.

@@ -1,4 +1,4 @@
--- Sets of lines: one bit for each of 256 lines, in four words (document 01, "The machine": read set and write set, footprint).
+-- Sets of lines: one bit for each of 256 lines, in four words (rules M9 and M10).
 use Prim.Native.Nat.{ℕ, _/_, _%_, _^_}
 use mathlib.Core.Bool.{Bool, _&&_, _||_, Bool·beq}
 use lib.ListN.{getD, set, replicate}

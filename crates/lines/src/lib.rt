@@ -1,4 +1,4 @@
-// Sets of lines: one bit for each of 256 lines, in four words (document 01, "The machine").
+// Sets of lines: one bit for each of 256 lines, in four words (rules M9 and M10).
 ghost use mathlib.Core.Path.{_≡_};
 ghost use Prim.Native.Nat.{_<_};
 ghost use Rattle.base.specs.Limits.{lines};

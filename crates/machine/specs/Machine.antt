@@ -1,9 +1,9 @@
--- The machine, and the fresh one (document 01, "The machine").
+-- The machine, and the fresh one (rules M3 and M14).
 use Prim.Native.Nat.{ℕ}
 use mathlib.Core.Bool.{Bool, true, false}
 use mathlib.Core.List.{List, []}
 use lib.ListN.{getD, replicate}
-use Rattle.base.specs.Limits.{most-memory, most-threads}
+use Rattle.base.specs.Limits.{most-memory, most-threads, gprs, cr-fields}
 use Rattle.lines.specs.declared.LineSet.{LineSet}
 use Rattle.transaction.specs.Transaction as transaction
 use Rattle.thread.specs.declared.Registers.{Registers}
@@ -42,7 +42,7 @@ with-threads m ts = record { count = m .count; threads = ts }
 
 -- the fresh machine, in problem state with the facility on, and its memory
 abbrev pub blank-registers : Registers
-blank-registers = record { gpr = replicate 32 0; cr = replicate 7 0 }
+blank-registers = record { gpr = replicate gprs 0; cr = replicate cr-fields 0 }
 
 unfoldable pub fresh-thread : Thread
 fresh-thread = record { live = blank-registers; cr0 = 0; checkpoint = blank-registers; control = initial-control true true; transaction = transaction.empty }

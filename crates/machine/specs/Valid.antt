@@ -1,9 +1,10 @@
--- The valid machine, clause by clause (document 01, "The machine": "A machine is valid when ..").
+-- The valid machine, clause by clause (rules V1 to V14).
 use Prim.Native.Nat.{ℕ, _*_, _%_}
 use mathlib.Core.Bool.{Bool, true, false, not, cond, _&&_, _||_, Bool·beq}
 use lib.Dec.{eqb, leb, ltb}
 use lib.ListN.{getD, length}
-use Rattle.base.specs.Limits.{line-size, lines, most-memory, words, most-footprint, most-places, most-levels, most-threads}
+use Rattle.base.specs.Answers as answer
+use Rattle.base.specs.Limits.{line-size, lines, most-memory, words, most-footprint, most-places, most-levels, most-threads, gprs, cr-fields}
 use Rattle.base.specs.Below.{all-below, any-below}
 use Rattle.lines.specs.Lines as lineset
 use Rattle.lines.specs.declared.LineSet.{LineSet}
@@ -31,7 +32,7 @@ sized m len = memory-sized len && leb 1 (m .count) && leb (m .count) most-thread
 
 -- the arrays have their lengths, as the code's types give them
 abbrev pub registers-shaped : Registers → Bool
-registers-shaped r = eqb (length (r .gpr)) 32 && eqb (length (r .cr)) 7
+registers-shaped r = eqb (length (r .gpr)) gprs && eqb (length (r .cr)) cr-fields
 
 unfoldable pub shaped : Thread → Bool
 shaped t =
@@ -53,7 +54,7 @@ aligned k = eqb (k .nia % 4) 0 && eqb (k .failure .tfhar % 4) 0
 
 -- CR fields are below 16
 unfoldable pub cr-small : Registers → Bool
-cr-small r = all-below (λ f. ltb (getD (r .cr) f 0) 16) 7
+cr-small r = all-below (λ f. ltb (getD (r .cr) f 0) 16) cr-fields
 
 unfoldable pub fields-small : Thread → Bool
 fields-small t = ltb (t .cr0) 16 && cr-small (t .live) && cr-small (t .checkpoint)
@@ -114,10 +115,10 @@ thread-valid t len = shaped t && aligned (t .control) && fields-small t && state
 
 -- records that are no threads are zero
 unfoldable pub zero-gpr : Registers → Bool
-zero-gpr r = all-below (λ i. eqb (getD (r .gpr) i 0) 0) 32
+zero-gpr r = all-below (λ i. eqb (getD (r .gpr) i 0) 0) gprs
 
 unfoldable pub zero-cr : Registers → Bool
-zero-cr r = all-below (λ f. eqb (getD (r .cr) f 0) 0) 7
+zero-cr r = all-below (λ f. eqb (getD (r .cr) f 0) 0) cr-fields
 
 abbrev pub zero-registers : Registers → Bool
 zero-registers r = zero-gpr r && zero-cr r
@@ -169,7 +170,7 @@ valid m len = sized m len && eqb (length (m .threads)) most-threads && threads-r
 
 -- the number of a machine over a memory of len doublewords: 1, or 2, or 0
 unfoldable pub machine-number : Machine → ℕ → ℕ
-machine-number m len = cond (not (sized m len)) 1 (cond (not (valid m len)) 2 0)
+machine-number m len = cond (not (sized m len)) answer.size (cond (not (valid m len)) answer.no-machine answer.done)
 
 -- the first of two numbers that refuses
 abbrev pub first-of : ℕ → ℕ → ℕ

@@ -1,4 +1,4 @@
-// What a transaction holds in a valid machine: places, indices, lines (document 01, "The machine"), for any value of the struct.
+// What a transaction holds in a valid machine: places, indices, lines (rules V2, V10 to V12), for any value of the struct.
 ghost use mathlib.Core.Path.{_≡_};
 ghost use Prim.Native.Nat.{ℕ, _<_, _≤_};
 ghost use Rattle.base.specs.Limits.{lines, most-places};

@@ -1,10 +1,12 @@
-// The machine: one to four threads over a lent memory (document 01, "The machine").
+// The machine: one to four threads over a lent memory (rules M1 to M3).
 mod held;
 pub mod valid;
 mod zeros;
 
 ghost use mathlib.Core.Path.{_≡_};
 ghost use Rattle.machine.specs.Machine.{fresh};
+use base::CR_FIELDS;
+use base::GPRS;
 use base::THREADS;
 use thread::Control;
 use thread::Failure;
@@ -24,8 +26,8 @@ pub fn fresh() -> Machine
 {
     let none = transaction::empty();
     let zeros = Registers {
-        gpr: [0; 32],
-        cr: [0; 7],
+        gpr: [0; GPRS],
+        cr: [0; CR_FIELDS],
     };
     let control = Control {
         nia: 0,

@@ -1,4 +1,4 @@
-// The valid machine, clause by clause (document 01, "The machine"), for any value of the struct, however broken.
+// The valid machine, clause by clause (rules V1 to V14), for any value of the struct, however broken.
 ghost use mathlib.Core.Path.{_≡_};
 ghost use mathlib.Core.Bool.{_||_};
 ghost use Prim.Native.Nat.{_<_};
@@ -8,11 +8,13 @@ ghost use Rattle.machine.specs.Valid.{memory-sized, sized, aligned, cr-s
 use crate::Machine;
 use crate::held;
 use crate::zeros;
+use base::CR_FIELDS;
 use base::FOOTPRINT;
 use base::LEVELS;
 use base::LINE;
 use base::MEMORY;
 use base::THREADS;
+use base::answer;
 use lines::LineSet;
 use thread::Control;
 use thread::Registers;
@@ -59,7 +61,7 @@ fn aligned(k: Control) -> bool
 fn cr_small(r: Registers) -> bool
     ensures { λ b. ⌜ b ≡ cr-small r ⌝ }
 {
-    let mut f = 7;
+    let mut f = CR_FIELDS;
     while 0 < f {
         f -= 1;
         if 16 <= r.cr[f] {
@@ -226,7 +228,7 @@ fn threads_right(m: Machine, len: usize) -> bool
     true
 }
 
-// The whole of document 01's valid machine, over a memory of len doublewords.
+// The whole of a valid machine, over a memory of len doublewords.
 fn valid(m: Machine, len: usize) -> bool
     ensures { λ r. ⌜ r ≡ valid m len ⌝ }
 {
@@ -244,10 +246,10 @@ pub fn number(m: Machine, len: usize) -> u8
     ensures { λ r. ⌜ r ≡ machine-number m len ⌝ }
 {
     if !sized(m, len) {
-        return 1;
+        return answer::SIZE;
     }
     if !valid(m, len) {
-        return 2;
+        return answer::NO_MACHINE;
     }
-    0
+    answer::DONE
 }

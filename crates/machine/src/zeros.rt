@@ -1,7 +1,9 @@
-// A thread record past the count: all zero (document 01, "The machine").
+// A thread record past the count: all zero (rule V3).
 ghost use mathlib.Core.Path.{_≡_};
 ghost use Rattle.machine.specs.Valid.{zero-gpr, zero-cr, zero-registers, zero-msr, zero-failure, zero-control, zero-thread};
 use crate::held;
+use base::CR_FIELDS;
+use base::GPRS;
 use thread::Control;
 use thread::Failure;
 use thread::Msr;
@@ -12,7 +14,7 @@ use thread::Thread;
 fn zero_gpr(r: Registers) -> bool
     ensures { λ b. ⌜ b ≡ zero-gpr r ⌝ }
 {
-    let mut i = 32;
+    let mut i = GPRS;
     while 0 < i {
         i -= 1;
         if r.gpr[i] != 0 {
@@ -25,7 +27,7 @@ fn zero_gpr(r: Registers) -> bool
 fn zero_cr(r: Registers) -> bool
     ensures { λ b. ⌜ b ≡ zero-cr r ⌝ }
 {
-    let mut f = 7;
+    let mut f = CR_FIELDS;
     while 0 < f {
         f -= 1;
         if r.cr[f] != 0 {

@@ -1,4 +1,4 @@
-// The program of document 01, "The tape": standard input is run on a fresh machine.
+// The program (rules P1 to P6): standard input is run on a fresh machine.
 fn main() {
     program::program();
 }

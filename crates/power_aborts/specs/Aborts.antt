@@ -1,4 +1,4 @@
--- tabort., tabortwc. and tabortdc. (document 01, "Events" 3 to 5). Clauses by state first.
+-- tabort., tabortwc. and tabortdc. (rules E3 to E5). Clauses by state first.
 use Prim.Native.Nat.{ℕ}
 use mathlib.Core.Bool.{Bool, cond}
 use Rattle.transaction.specs.declared.Cause.{Cause}

@@ -1,4 +1,4 @@
--- The comparisons of tabortwc. and tabortdc. (document 01, "Events" 4 and 5).
+-- The comparisons of tabortwc. and tabortdc. (rules E4 and E5).
 use Prim.Native.Nat.{ℕ, _+_, _-_, _*_, _/_, _%_}
 use mathlib.Core.Bool.{Bool, cond, _&&_, _||_}
 use lib.Dec.{eqb, ltb}

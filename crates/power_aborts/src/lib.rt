@@ -3,6 +3,7 @@ pub mod compare;
 
 ghost use mathlib.Core.Path.{_≡_};
 ghost use Prim.Native.Nat.{_<_};
+ghost use Rattle.base.specs.Limits.{gprs};
 ghost use Rattle.power_common.specs.Common.{abort-cause};
 ghost use Rattle.power_aborts.specs.Aborts.{tabort, tabort-if, tabortwc, tabortdc};
 use power_common::Did;
@@ -29,7 +30,7 @@ fn abort(t: Thread, cause: Cause) -> Did
 
 // tabort. (RA)
 pub fn tabort(t: Thread, ra: u8) -> Did
-    requires { ⌜ ra < 32 ⌝ }
+    requires { ⌜ ra < gprs ⌝ }
     ensures { λ d. ⌜ d ≡ tabort (t .control .msr .state) t (abort-cause t ra) ⌝ }
 {
     abort(t, power_common::abort_cause(t, ra))
@@ -47,8 +48,8 @@ fn tabort_if(t: Thread, held: bool) -> Did
 
 // tabortwc. (TO, RA, RB)
 pub fn tabortwc(t: Thread, to: u8, ra: u8, rb: u8) -> Did
-    requires { ⌜ ra < 32 ⌝ }
-    requires { ⌜ rb < 32 ⌝ }
+    requires { ⌜ ra < gprs ⌝ }
+    requires { ⌜ rb < gprs ⌝ }
     ensures { λ d. ⌜ d ≡ tabortwc t to ra rb ⌝ }
 {
     tabort_if(
@@ -59,8 +60,8 @@ pub fn tabortwc(t: Thread, to: u8, ra: u8, rb: u8) -> Did
 
 // tabortdc. (TO, RA, RB)
 pub fn tabortdc(t: Thread, to: u8, ra: u8, rb: u8) -> Did
-    requires { ⌜ ra < 32 ⌝ }
-    requires { ⌜ rb < 32 ⌝ }
+    requires { ⌜ ra < gprs ⌝ }
+    requires { ⌜ rb < gprs ⌝ }
     ensures { λ d. ⌜ d ≡ tabortdc t to ra rb ⌝ }
 {
     tabort_if(

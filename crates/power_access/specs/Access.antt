@@ -1,4 +1,4 @@
--- Loads and stores (document 01, "Loads, stores and conflicts": (a), (b) and (d); "Events" 12 and 13). (c) is in `conflict/specs/Conflict`.
+-- Loads and stores (rules A1, A2 and A4; E12 and E13). Rule A3 is in `conflict/specs/Conflict`.
 -- Clauses by state first.
 use Prim.Native.Nat.{ℕ}
 use mathlib.Core.Bool.{Bool, cond, _&&_}

@@ -1,8 +1,8 @@
-// ld and std (document 01, "Loads, stores and conflicts", (a), (b) and (d)).
+// ld and std (rules A1, A2 and A4).
 ghost use mathlib.Core.Path.{_≡_};
 ghost use Prim.Native.Nat.{_<_, _≤_};
 ghost use lib.ListN.{length};
-ghost use Rattle.base.specs.Limits.{lines, most-places};
+ghost use Rattle.base.specs.Limits.{lines, most-places, gprs};
 ghost use Rattle.transaction.specs.Transaction.{line, touches};
 ghost use Rattle.power_access.specs.Access.{tracked, takes, joins, loads, ld, stores, logs, meets-own, std};
 use base::LINE;
@@ -27,7 +27,7 @@ fn tracked(t: Thread) -> bool
 // The register takes what the thread sees at a doubleword.
 fn takes(t: Thread, rt: u8, index: u32, mem: &[u64]) -> Did
     requires { ⌜ t .transaction .count ≤ most-places ⌝ }
-    requires { ⌜ rt < 32 ⌝ }
+    requires { ⌜ rt < gprs ⌝ }
     requires { ⌜ index < length (now mem) ⌝ }
     ensures { λ d. ⌜ d ≡ takes t rt index (now (mem .entry)) ⌝ }
 {
@@ -59,7 +59,7 @@ fn loads(d: Did, index: u32) -> Effect
 // ld in T: the overflow is found before anything is done.
 fn ld_transactional(t: Thread, rt: u8, index: u32, mem: &[u64]) -> Effect
     requires { ⌜ t .transaction .count ≤ most-places ⌝ }
-    requires { ⌜ rt < 32 ⌝ }
+    requires { ⌜ rt < gprs ⌝ }
     requires { ⌜ line index < lines ⌝ }
     requires { ⌜ index < length (now mem) ⌝ }
     ensures { λ e. ⌜ e ≡ ld State.T t rt index (now (mem .entry)) ⌝ }
@@ -78,7 +78,7 @@ fn ld_transactional(t: Thread, rt: u8, index: u32, mem: &[u64]) -> Effect
 // ld (RT, index)
 pub fn ld(t: Thread, rt: u8, index: u32, mem: &[u64]) -> Effect
     requires { ⌜ t .transaction .count ≤ most-places ⌝ }
-    requires { ⌜ rt < 32 ⌝ }
+    requires { ⌜ rt < gprs ⌝ }
     requires { ⌜ line index < lines ⌝ }
     requires { ⌜ index < length (now mem) ⌝ }
     ensures { λ e. ⌜ e ≡ ld (t .control .msr .state) t rt index (now (mem .entry)) ⌝ }

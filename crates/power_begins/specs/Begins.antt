@@ -1,7 +1,8 @@
--- tbegin., tend. and tsr. (document 01, "Events" 1, 2 and 6). Clauses by state first. tend. in S is a Bad Thing and refused: that clause is never reached.
+-- tbegin., tend. and tsr. (rules E1, E2 and E6). Clauses by state first. tend. in S is a Bad Thing and refused: that clause is never reached.
 use Prim.Native.Nat.{ℕ, _+_, _-_}
 use mathlib.Core.Bool.{Bool, cond, _||_}
 use lib.Dec.{leb}
+use Rattle.base.specs.Answers as answer
 use Rattle.base.specs.Limits.{most-levels}
 use Rattle.base.specs.Below.{bit}
 use Rattle.transaction.specs.Transaction as transaction
@@ -58,7 +59,7 @@ tsuspend S t = cr0-only t
 unfoldable pub tresume : State → Thread → Did
 tresume N t = cr0-only t
 tresume T t = cr0-only t
-tresume S t = cond (t .control .msr .doomed) (did 20 (handling t)) (moves t T)
+tresume S t = cond (t .control .msr .doomed) (did answer.handled (handling t)) (moves t T)
 
 unfoldable pub tsr : Thread → Bool → Did
 tsr t l = cond l (tresume (t .control .msr .state) t) (tsuspend (t .control .msr .state) t)

@@ -2,6 +2,7 @@
 ghost use mathlib.Core.Path.{_≡_};
 ghost use Rattle.power_begins.specs.Begins.{begins, tbegin, commits, ended, tend, moves, tsuspend, tresume, tsr};
 use base::LEVELS;
+use base::answer;
 use power_common::Did;
 use thread::Control;
 use thread::Effect;
@@ -149,7 +150,7 @@ fn tresume(t: Thread) -> Did
             if m.doomed {
                 let u = thread::handling(t);
                 return Did {
-                    answer: 20,
+                    answer: answer::HANDLED,
                     thread: u,
                 };
             }

@@ -1,8 +1,9 @@
--- What the events on one thread share (document 01, "Events"): the next address, CR0 from state, the thread's own failure.
+-- What the events on one thread share (rules E0.1 to E0.10): the next address, CR0 from state, the thread's own failure.
 use Prim.Native.Nat.{ℕ, _+_, _*_, _%_, _^_}
 use mathlib.Core.Bool.{true, cond}
 use lib.ListN.{getD, set}
 use lib.Dec.{eqb}
+use Rattle.base.specs.Answers as answer
 use Rattle.transaction.specs.declared.Cause.{Cause}
 use Rattle.transaction.specs.declared.Cause.the-variants.{Abort}
 use Rattle.transaction.specs.declared.Touch.{Touch}
@@ -36,7 +37,7 @@ advance t = with-control t (with-nia (t .control) (next (t .control .nia)))
 
 -- done, with nothing else
 abbrev pub passes : Thread → Did
-passes t = did 0 (advance t)
+passes t = did answer.done (advance t)
 
 -- the state as two bits
 abbrev pub ts : State → ℕ
@@ -80,8 +81,8 @@ own-recording t cause = recording t cause true (t .control .nia)
 
 -- the thread's own failure in T: recorded, and handled in the same event
 unfoldable pub fails : Thread → Cause → Did
-fails t cause = did 20 (handling (own-recording t cause))
+fails t cause = did answer.handled (handling (own-recording t cause))
 
 -- the thread's own failure in S: recorded, and handled at tresume; 21 only if this event recorded it
 unfoldable pub dooms : Thread → Cause → Did
-dooms t cause = did (cond (failed (t .control)) 0 21) (advance (own-recording t cause))
+dooms t cause = did (cond (failed (t .control)) answer.done answer.recorded) (advance (own-recording t cause))

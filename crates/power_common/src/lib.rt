@@ -1,7 +1,9 @@
 // What the events share: the next address, CR0 from state, registers, the thread's own failure.
 ghost use mathlib.Core.Path.{_≡_};
 ghost use Prim.Native.Nat.{_<_};
+ghost use Rattle.base.specs.Limits.{gprs};
 ghost use Rattle.power_common.specs.Common.{doing, quiet, next, advance, passes, ts-field, cr0-from-state, gpr, gpr-or-0, put-gpr, abort-cause, own-recording, fails, dooms, cr0-only, leveled};
+use base::answer;
 use thread::Effect;
 use thread::State;
 use thread::Thread;
@@ -71,7 +73,7 @@ pub fn passes(t: Thread) -> Did
 {
     let u = advance(t);
     Did {
-        answer: 0,
+        answer: answer::DONE,
         thread: u,
     }
 }
@@ -110,7 +112,7 @@ pub fn leveled(t: Thread, x: u64) -> Did
 
 // General register r.
 pub fn gpr(t: Thread, r: u8) -> u64
-    requires { ⌜ r < 32 ⌝ }
+    requires { ⌜ r < gprs ⌝ }
     ensures { λ v. ⌜ v ≡ gpr t r ⌝ }
 {
     let live = t.live;
@@ -119,7 +121,7 @@ pub fn gpr(t: Thread, r: u8) -> u64
 
 // Register RA, or 0 where RA = 0 names none.
 pub fn gpr_or_0(t: Thread, ra: u8) -> u64
-    requires { ⌜ ra < 32 ⌝ }
+    requires { ⌜ ra < gprs ⌝ }
     ensures { λ v. ⌜ v ≡ gpr-or-0 t ra ⌝ }
 {
     if ra == 0 {
@@ -129,7 +131,7 @@ pub fn gpr_or_0(t: Thread, ra: u8) -> u64
 }
 
 pub fn put_gpr(t: Thread, r: u8, v: u64) -> Thread
-    requires { ⌜ r < 32 ⌝ }
+    requires { ⌜ r < gprs ⌝ }
     ensures { λ u. ⌜ u ≡ put-gpr t r v ⌝ }
 {
     let mut live = t.live;
@@ -141,7 +143,7 @@ pub fn put_gpr(t: Thread, r: u8, v: u64) -> Thread
 
 // The cause by RA: the low byte of the register as code.
 pub fn abort_cause(t: Thread, ra: u8) -> Cause
-    requires { ⌜ ra < 32 ⌝ }
+    requires { ⌜ ra < gprs ⌝ }
     ensures { λ r. ⌜ r ≡ abort-cause t ra ⌝ }
 {
     Cause::Abort((gpr_or_0(t, ra) % 256) as u8)
@@ -162,7 +164,7 @@ pub fn fails(t: Thread, cause: Cause) -> Did
     let u = own_recording(t, cause);
     let v = thread::handling(u);
     Did {
-        answer: 20,
+        answer: answer::HANDLED,
         thread: v,
     }
 }
@@ -176,12 +178,12 @@ pub fn dooms(t: Thread, cause: Cause) -> Did
     let v = advance(u);
     if thread::failed(k) {
         return Did {
-            answer: 0,
+            answer: answer::DONE,
             thread: v,
         };
     }
     Did {
-        answer: 21,
+        answer: answer::RECORDED,
         thread: v,
     }
 }

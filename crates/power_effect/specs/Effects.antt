@@ -1,4 +1,4 @@
--- What each event that is not refused does: its answer and thread, what it touches and what it writes (document 01, "Events"). The meanings are in the crates power_*.
+-- What each event that is not refused does: its answer and thread, what it touches and what it writes (rules E1 to E17). The meanings are in the crates power_*.
 use Prim.Native.Nat.{ℕ}
 use mathlib.Core.List.{List}
 use Rattle.thread.specs.declared.Thread.{Thread}

@@ -1,4 +1,4 @@
-// What an event does, decided before anything changes (document 01, "Events"): it goes to the crate of its group.
+// What an event does, decided before anything changes (rules E1 to E17): it goes to the crate of its group.
 
 ghost use mathlib.Core.Path.{_≡_};
 ghost use mathlib.Core.Bool.{true};

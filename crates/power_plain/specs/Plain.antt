@@ -1,7 +1,8 @@
--- addi, a disallowed instruction, an interrupt and the host's setting (document 01, "Events" 14 to 17).
+-- addi, a disallowed instruction, an interrupt and the host's setting (rules E14 to E17).
 use Prim.Native.Nat.{ℕ, _+_, _-_, _%_, _^_}
 use mathlib.Core.Bool.{Bool, false, cond}
 use lib.Dec.{ltb}
+use Rattle.base.specs.Answers as answer
 use Rattle.transaction.specs.declared.Cause.the-variants.{Disallowed}
 use Rattle.thread.specs.Thread.{with-control, with-msr}
 use Rattle.thread.specs.declared.State.{State}
@@ -34,7 +35,7 @@ interrupted T = S
 interrupted S = S
 
 unfoldable pub interrupt : Thread → Did
-interrupt t = did 0 (with-control t (with-msr (t .control) (asked (t .control .msr) (interrupted (t .control .msr .state)) false false)))
+interrupt t = did answer.done (with-control t (with-msr (t .control) (asked (t .control .msr) (interrupted (t .control .msr .state)) false false)))
 
 unfoldable pub host : Thread → Bool → Bool → Did
-host t pr tm = did 0 (with-control t (with-msr (t .control) (asked (t .control .msr) (t .control .msr .state) pr tm)))
+host t pr tm = did answer.done (with-control t (with-msr (t .control) (asked (t .control .msr) (t .control .msr .state) pr tm)))

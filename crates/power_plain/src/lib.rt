@@ -1,7 +1,9 @@
 // addi, the disallowed instruction, the interrupt, and the host's setting of PR and TM.
 ghost use mathlib.Core.Path.{_≡_};
 ghost use Prim.Native.Nat.{_<_};
+ghost use Rattle.base.specs.Limits.{gprs};
 ghost use Rattle.power_plain.specs.Plain.{extended, addi, disallowed, asked, interrupted, interrupt, host};
+use base::answer;
 use power_common::Did;
 use thread::Msr;
 use thread::State;
@@ -21,8 +23,8 @@ fn extended(si: u16) -> u64
 
 // addi (RT, RA, SI)
 pub fn addi(t: Thread, rt: u8, ra: u8, si: u16) -> Did
-    requires { ⌜ rt < 32 ⌝ }
-    requires { ⌜ ra < 32 ⌝ }
+    requires { ⌜ rt < gprs ⌝ }
+    requires { ⌜ ra < gprs ⌝ }
     ensures { λ d. ⌜ d ≡ addi t rt ra si ⌝ }
 {
     let v = std::num::wrapping_add_u64(power_common::gpr_or_0(t, ra), extended(si));
@@ -77,7 +79,7 @@ pub fn interrupt(t: Thread) -> Did
     let mut u = t;
     u.control = k;
     Did {
-        answer: 0,
+        answer: answer::DONE,
         thread: u,
     }
 }
@@ -94,7 +96,7 @@ pub fn host(t: Thread, pr: bool, tm: bool) -> Did
     let mut u = t;
     u.control = k;
     Did {
-        answer: 0,
+        answer: answer::DONE,
         thread: u,
     }
 }

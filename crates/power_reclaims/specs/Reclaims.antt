@@ -1,4 +1,4 @@
--- tcheck, treclaim. and trechkpt. (document 01, "Events" 7 to 9). Bad Things are refused, and not asked here.
+-- tcheck, treclaim. and trechkpt. (rules E7 to E9). Bad Things are refused, and not asked here.
 use Prim.Native.Nat.{ℕ, _+_, _-_, _*_}
 use mathlib.Core.Bool.{true, false, cond}
 use lib.ListN.{set}

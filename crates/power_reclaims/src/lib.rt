@@ -1,6 +1,7 @@
 // tcheck, treclaim. and trechkpt.
 ghost use mathlib.Core.Path.{_≡_};
 ghost use Prim.Native.Nat.{_<_};
+ghost use Rattle.base.specs.Limits.{gprs};
 ghost use Rattle.power_reclaims.specs.Reclaims.{check-field, put-cr, tcheck, reclaims, treclaim, trechkpt};
 use power_common::Did;
 use thread::Control;
@@ -61,7 +62,7 @@ fn reclaims(t: Thread) -> Thread
 
 // treclaim. (RA): the cause is read from the live register before the checkpoint is put back.
 pub fn treclaim(t: Thread, ra: u8) -> Did
-    requires { ⌜ ra < 32 ⌝ }
+    requires { ⌜ ra < gprs ⌝ }
     ensures { λ d. ⌜ d ≡ treclaim t ra ⌝ }
 {
     let k = t.control;

@@ -1,4 +1,4 @@
--- mtspr and mfspr (document 01, "Events" 10 and 11).
+-- mtspr and mfspr (rules E10 and E11).
 use Prim.Native.Nat.{ℕ, _+_, _-_, _*_, _%_, _^_}
 use mathlib.Core.Bool.{cond, _&&_}
 use lib.Dec.{eqb}

@@ -1,6 +1,7 @@
 // mtspr and mfspr.
 ghost use mathlib.Core.Path.{_≡_};
 ghost use Prim.Native.Nat.{_<_};
+ghost use Rattle.base.specs.Limits.{gprs};
 ghost use Rattle.power_special.specs.Special.{put-spr, mtspr, get-tfiar, get-spr, mfspr};
 use power_common::Did;
 use thread::Control;
@@ -29,7 +30,7 @@ fn put_spr(f: Failure, spr: u8, v: u64) -> Failure
 
 // mtspr (SPR, RA)
 pub fn mtspr(t: Thread, spr: u8, ra: u8) -> Did
-    requires { ⌜ ra < 32 ⌝ }
+    requires { ⌜ ra < gprs ⌝ }
     ensures { λ d. ⌜ d ≡ mtspr t spr ra ⌝ }
 {
     let mut k = t.control;
@@ -72,7 +73,7 @@ fn get_spr(k: Control, spr: u8) -> u64
 
 // mfspr (RT, SPR)
 pub fn mfspr(t: Thread, rt: u8, spr: u8) -> Did
-    requires { ⌜ rt < 32 ⌝ }
+    requires { ⌜ rt < gprs ⌝ }
     ensures { λ d. ⌜ d ≡ mfspr t rt spr ⌝ }
 {
     let k = t.control;

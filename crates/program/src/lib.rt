@@ -1,4 +1,4 @@
-// The program: standard input is a tape, and the text goes to standard output (document 01, "The tape").
+// The program: standard input is a tape, and the text goes to standard output (rules P1 to P5).
 use libc::STDIN_FILENO;
 use libc::STDOUT_FILENO;
 use text::LONGEST;

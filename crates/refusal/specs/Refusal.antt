@@ -1,7 +1,8 @@
--- Which event is refused, and by which number (document 01, "Numbers given back"): first 1 to 5, then 11 to 13.
+-- Which event is refused, and by which number (rules N1 and N2): first 1 to 5, then 11 to 13.
 use Prim.Native.Nat.{ℕ}
 use mathlib.Core.Bool.{Bool, true, false, not, cond, _&&_, _||_}
 use lib.Dec.{eqb, leb}
+use Rattle.base.specs.Answers as answer
 use Rattle.thread.specs.Thread.{failed}
 use Rattle.thread.specs.declared.State.{State}
 use Rattle.thread.specs.declared.State.the-variants.{N, T, S}
@@ -37,17 +38,17 @@ bad-thing S k n = eqb n tend-kind || (eqb n trechkpt-kind || eqb n mtspr-kind)
 -- the tests on the event's own thread: 5, 11, 12, 13
 unfoldable pub refused-there : Control → Event → ℕ
 refused-there k e =
-    cond (host-in-t (k .msr .state) (kind e)) 5
-    (cond (off k e) 11
-    (cond (forbidden k e) 12
-    (cond (bad-thing (k .msr .state) k (kind e)) 13
-    0)))
+    cond (host-in-t (k .msr .state) (kind e)) answer.host-in-t
+    (cond (off k e) answer.facility-off
+    (cond (forbidden k e) answer.privileged
+    (cond (bad-thing (k .msr .state) k (kind e)) answer.bad-thing
+    answer.done)))
 
 -- the tests that a valid machine leaves: 3, 4, 5, 11, 12, 13
 unfoldable pub refused-later : Machine → ℕ → ℕ → Event → ℕ
 refused-later m len w e =
-    cond (leb (m .count) w) 3
-    (cond (not (operands-right e len)) 4
+    cond (leb (m .count) w) answer.no-thread
+    (cond (not (operands-right e len)) answer.operand
     (refused-there (thread (m .threads) w .control) e))
 
 -- the number by which an event is refused, or 0: the machine's comes first

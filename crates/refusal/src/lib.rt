@@ -1,8 +1,9 @@
-// Which event is refused, and by which number (document 01, "Numbers given back").
+// Which event is refused, and by which number (rules N1 and N2).
 ghost use mathlib.Core.Path.{_≡_};
 ghost use Prim.Native.Nat.{_≤_};
 ghost use Rattle.base.specs.Limits.{most-threads};
 ghost use Rattle.refusal.specs.Refusal.{in-t, host-in-t, bad-thing, off, forbidden, refused-there, refused-later};
+use base::answer;
 use event::Event;
 use machine::Machine;
 use thread::Control;
@@ -102,20 +103,20 @@ fn refused_there(k: Control, e: Event) -> u8
     let s = m.state;
     let n = event::kind(e);
     if host_in_t(s, n) {
-        return 5;
+        return answer::HOST_IN_T;
     }
     let without = off(k, e);
     let barred = forbidden(k, e);
     if without {
-        return 11;
+        return answer::FACILITY_OFF;
     }
     if barred {
-        return 12;
+        return answer::PRIVILEGED;
     }
     if bad_thing(k, n) {
-        return 13;
+        return answer::BAD_THING;
     }
-    0
+    answer::DONE
 }
 
 // The tests that a valid machine leaves: 3, 4, and those on the event's own thread.
@@ -124,10 +125,10 @@ pub fn refused_later(m: Machine, len: usize, w: usize, e: Event) -> u8
     ensures { λ r. ⌜ r ≡ refused-later m len w e ⌝ }
 {
     if m.count <= w {
-        return 3;
+        return answer::NO_THREAD;
     }
     if !event::operands_right(e, len) {
-        return 4;
+        return answer::OPERAND;
     }
     let t = m.threads[w];
     let k = t.control;

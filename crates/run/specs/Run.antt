@@ -1,9 +1,10 @@
--- A tape run on a machine, record by record (document 01, "The tape").
+-- A tape run on a machine, record by record (rules R1 to R4).
 use Prim.Native.Nat.{ℕ, zero, suc, _+_, _*_, _/_, _%_}
 use mathlib.Core.Bool.{Bool, cond, _||_}
 use mathlib.Core.List.{List, [], _∷_}
 use lib.Dec.{eqb}
 use lib.ListN.{length, take, drop}
+use Rattle.base.specs.Answers as answer
 use Rattle.machine.specs.Valid.{machine-number, first-of}
 use Rattle.step.specs.Step.{Outcome, step}
 use Rattle.machine.specs.declared.Machine.{Machine}
@@ -27,7 +28,7 @@ in-front n r = record { ended = r .ended; memory = r .memory; answers = n ∷ r 
 
 -- a run goes on after 0, 20 and 21
 abbrev pub goes-on : ℕ → Bool
-goes-on n = eqb n 0 || eqb n 20 || eqb n 21
+goes-on n = eqb n answer.done || eqb n answer.handled || eqb n answer.recorded
 
 -- record k of a tape
 abbrev pub record-at : List ℕ → ℕ → List ℕ
@@ -50,7 +51,7 @@ one (Record w e) m mem k = counted (step m mem w e) k
 
 -- the run with these records left and k done; it stops at a record that is not counted
 unfoldable pub play : List Read → ℕ → Machine → List ℕ → Result
-play [] k m mem = result 0 k m mem []
+play [] k m mem = result answer.done k m mem []
 play (r ∷ rs) k m mem =
     let o = one r m mem k in
     let rest = play rs (k + 1) (o .ended .machine) (o .memory) in
@@ -58,7 +59,7 @@ play (r ∷ rs) k m mem =
 
 -- number 6: a tape's length is no multiple of 16
 abbrev pub tape-number : List ℕ → ℕ
-tape-number tape = cond (eqb (length tape % record-size) 0) 0 6
+tape-number tape = cond (eqb (length tape % record-size) 0) answer.done answer.tape-length
 
 -- the tests of the whole, 1, 2 and 6, come before any record, and where there is none
 unfoldable pub run : Machine → List ℕ → List ℕ → Result

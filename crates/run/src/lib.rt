@@ -1,4 +1,4 @@
-// A tape run on a machine, record by record (document 01, "The tape").
+// A tape run on a machine, record by record (rules R1 to R4).
 ghost use mathlib.Core.Path.{_≡_};
 ghost use mathlib.Core.Bool.{true};
 ghost use Prim.Native.Nat.{_%_, _/_, _<_, _^_};
@@ -7,6 +7,7 @@ ghost use lib.Seq.{sets};
 ghost use Rattle.machine.specs.Valid.{valid};
 ghost use Rattle.tape.specs.Tape.{record-size, read};
 ghost use Rattle.run.specs.Run.{goes-on, reads, one, play, run};
+use base::answer;
 use machine::Machine;
 use tape::RECORD_SIZE;
 use tape::Read;
@@ -22,13 +23,13 @@ pub struct Ended {
 fn goes_on(answer: u8) -> bool
     ensures { λ r. ⌜ r ≡ goes-on answer ⌝ }
 {
-    if answer == 0 {
+    if answer == answer::DONE {
         return true;
     }
-    if answer == 20 {
+    if answer == answer::HANDLED {
         return true;
     }
-    answer == 21
+    answer == answer::RECORDED
 }
 
 // One record read and done behind k others: a record that stops the run is not counted.
@@ -94,7 +95,7 @@ fn records(m: Machine, mem: &mut [u64], tape: &[u8], answers: &mut [u8]) -> Ende
         k += 1;
     }
     Ended {
-        answer: 0,
+        answer: answer::DONE,
         count: n,
         machine,
     }
@@ -117,7 +118,7 @@ pub fn run(m: Machine, mem: &mut [u64], tape: &[u8], answers: &mut [u8]) -> Ende
     }
     if tape.len() % RECORD_SIZE != 0 {
         return Ended {
-            answer: 6,
+            answer: answer::TAPE_LENGTH,
             count: 0,
             machine: m,
         };

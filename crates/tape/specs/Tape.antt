@@ -1,4 +1,4 @@
--- One record of 16 bytes, read and written (document 01, "The tape").
+-- One record of 16 bytes, read and written (rules T1 to T8).
 use Prim.Native.Nat.{ℕ, _+_, _*_, _/_, _%_}
 use mathlib.Core.Bool.{Bool, not, cond, _&&_, _||_}
 use mathlib.Core.List.{List, [], _∷_}
@@ -6,6 +6,7 @@ use mathlib.Core.Option.{Option, some, none}
 use lib.Dec.{eqb, leb, ltb}
 use lib.ListN.{getD, length}
 use lib.Seq.{sets}
+use Rattle.base.specs.Answers as answer
 use Rattle.event.specs.declared.Event.{Event}
 use Rattle.event.specs.declared.Fields.{Fields}
 use Rattle.event.specs.declared.rows.Row.{Row}
@@ -62,22 +63,22 @@ unused-clear r f =
 
 -- number 9, or the thread and the event: clear says that every unused field and every fixed 0 byte is 0 and the flags are not too big
 unfoldable pub judged : Fields → Bool → Read
-judged f clear = cond (not clear) (Refused 9) (Record (f .thread) (event-of f))
+judged f clear = cond (not clear) (Refused answer.field) (Record (f .thread) (event-of f))
 
 -- numbers 8 and 9 in their order, or the thread and the event; zero says that every fixed 0 byte is 0
 unfoldable pub of-kind : Fields → Bool → Read
-of-kind f zero = cond (not (kind-right (f .kind))) (Refused 8) (judged f (zero && unused-clear (row (f .kind)) f))
+of-kind f zero = cond (not (kind-right (f .kind))) (Refused answer.no-kind) (judged f (zero && unused-clear (row (f .kind)) f))
 
 -- the reader: the numbers 6, 7, 8, 9 in their order, or the thread and the event
 unfoldable pub read : List ℕ → Read
 read bs =
-    cond (not (eqb (length bs) record-size)) (Refused 6)
-    (cond (not (eqb (byte bs 0) first-byte)) (Refused 7)
+    cond (not (eqb (length bs) record-size)) (Refused answer.tape-length)
+    (cond (not (eqb (byte bs 0) first-byte)) (Refused answer.bad-first-byte)
     (of-kind (fields-at bs) (fixed-zero bs)))
 
--- document 01's number of each answer, and its values: a record is 0 with its thread and event, a refusal its number alone
+-- the number of each answer (rule C7), and its values: a record is 0 with its thread and event, a refusal its number alone
 abbrev pub number : Read → ℕ
-number (Record w e) = 0
+number (Record w e) = answer.done
 number (Refused n) = n
 
 abbrev pub values : Read → Option (ℕ × Event)
@@ -86,7 +87,7 @@ values (Refused n) = none
 
 -- the writer: number 10 for a buffer under 16 bytes, which stays; else the first 16 bytes
 unfoldable pub write-answer : List ℕ → ℕ
-write-answer buf = cond (ltb (length buf) record-size) 10 0
+write-answer buf = cond (ltb (length buf) record-size) answer.short-buffer answer.done
 
 unfoldable pub write : ℕ → Event → List ℕ → List ℕ
 write w e buf = cond (ltb (length buf) record-size) buf (sets buf 0 (bytes (fields-of w e)))

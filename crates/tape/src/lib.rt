@@ -1,9 +1,10 @@
-// The tape: records of 16 bytes, one event each (document 01, "The tape").
+// The tape: records of 16 bytes, one event each (rules T1 to T8).
 pub mod reader;
 pub mod writer;
 
 ghost use mathlib.Core.Path.{_≡_};
 ghost use Rattle.tape.specs.Tape.{number};
+use base::answer;
 use event::Event;
 
 // A record's length, and its first byte. specs/Tape.antt has the same numbers for the definitions.
@@ -25,7 +26,7 @@ pub fn number(r: Read) -> u8
         Read::Record {
             thread: _,
             event: _,
-        } => 0,
+        } => answer::DONE,
         Read::Refused(n) => n,
     }
 }

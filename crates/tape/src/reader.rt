@@ -6,6 +6,7 @@ ghost use Rattle.tape.specs.Tape.{record-size, two, four, fields-at, fix
 use crate::FIRST_BYTE;
 use crate::RECORD_SIZE;
 use crate::Read;
+use base::answer;
 use event::Fields;
 use event::rows;
 use event::rows::Row;
@@ -74,7 +75,7 @@ fn judged(f: Fields, zero: bool, r: Row) -> Read
             event,
         };
     }
-    Read::Refused(9)
+    Read::Refused(answer::FIELD)
 }
 
 // The kind chooses the row; all other values are refused by 8.
@@ -84,7 +85,7 @@ pub fn of_kind(f: Fields, zero: bool) -> Read
     let kind = f.kind;
     match kind {
         1..=17 => judged(f, zero, event::row(kind)),
-        _ => Read::Refused(8),
+        _ => Read::Refused(answer::NO_KIND),
     }
 }
 
@@ -93,11 +94,11 @@ pub fn read(s: &[u8]) -> Read
     ensures { λ r. ⌜ r ≡ read (now (s .entry)) ⌝ }
 {
     if s.len() != RECORD_SIZE {
-        return Read::Refused(6);
+        return Read::Refused(answer::TAPE_LENGTH);
     }
     let first = s[0];
     if first != FIRST_BYTE {
-        return Read::Refused(7);
+        return Read::Refused(answer::BAD_FIRST_BYTE);
     }
     of_kind(fields_at(s), fixed_zero(s))
 }

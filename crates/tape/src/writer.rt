@@ -6,6 +6,7 @@ ghost use lib.Seq.{sets};
 ghost use Rattle.tape.specs.Tape.{record-size, bytes, write-answer, write};
 use crate::FIRST_BYTE;
 use crate::RECORD_SIZE;
+use base::answer;
 use event::Event;
 use event::Fields;
 
@@ -53,9 +54,9 @@ pub fn write(thread: u8, e: Event, buf: &mut [u8]) -> u8
     ensures { λ r. ⌜ now (buf .exit) ≡ write thread e (now (buf .entry)) ⌝ }
 {
     if buf.len() < RECORD_SIZE {
-        return 10;
+        return answer::SHORT_BUFFER;
     }
     let record = bytes(event::fields_of(thread, e));
     put(buf, &record);
-    0
+    answer::DONE
 }

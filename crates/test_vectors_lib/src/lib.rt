@@ -1,4 +1,4 @@
-// Vectors: lines of text, each with a rule of document 01 and the events that show it, run on the proved machine.
+// Vectors: lines of text, each with a rule and the events that show it, run on the proved machine.
 //
 // A line is `RULE: ITEM ITEM ..`. The rule is any text without a colon. An item is 16 bytes in 32 hexadecimal digits. One that begins
 // with e3 is a record of the tape: it is read, and its thread steps its event by the public entry. Any other item is a poke, which

@@ -1,4 +1,4 @@
--- What the program writes for the bytes of standard input (document 01, "The tape").
+-- What the program writes for the bytes of standard input (rules P1 to P6).
 use Prim.Native.Nat.{ℕ, _+_, _/_, _%_}
 use mathlib.Core.Bool.{cond, not}
 use mathlib.Core.List.{List, [], _∷_, _++_}

@@ -1,4 +1,4 @@
-// The bytes that the program writes for the bytes of standard input (document 01, "The tape").
+// The bytes that the program writes for the bytes of standard input (rules P1 to P6).
 ghost use mathlib.Core.Path.{_≡_};
 ghost use mathlib.Core.Bool.{cond};
 ghost use Prim.Native.Nat.{_+_, _≤_};

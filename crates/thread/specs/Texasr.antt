@@ -1,4 +1,4 @@
--- TEXASR's fields, with bit 0 the highest of 64 (document 01, "TEXASR").
+-- TEXASR's fields, with bit 0 the highest of 64 (rules X1 to X6).
 use Prim.Native.Nat.{ℕ, _+_, _-_, _*_, _/_, _%_, _^_}
 use Rattle.transaction.specs.declared.Cause.{Cause}
 use Rattle.transaction.specs.declared.Cause.the-variants.{Disallowed, Nesting, Footprint, OwnStore, PlainConflict, Conflict, Abort}

@@ -1,4 +1,4 @@
--- One thread (document 01, "The machine"): the checkpoint; recording and handling of a failure ("TEXASR").
+-- One thread (rules M4 to M7): the checkpoint; recording and handling of a failure (rules F1 to F9).
 use Prim.Native.Nat.{ℕ, _+_, _-_, _%_}
 use mathlib.Core.Bool.{Bool, true, false, not, cond}
 use lib.Dec.{eqb}

@@ -1,8 +1,10 @@
-// One thread: live registers and checkpoint, control registers, transaction; recording and handling of a failure (document 01, "The machine", "TEXASR").
+// One thread: live registers and checkpoint, control registers, transaction; recording and handling of a failure (rules M4 to M7, X1 to X6, F1 to F9).
 ghost use mathlib.Core.Path.{_≡_};
 ghost use Prim.Native.Nat.{_<_, _^_};
 ghost use Rattle.thread.specs.Texasr.{rot, tl, packed, cause-bits};
 ghost use Rattle.thread.specs.Thread.{in-state, take-checkpoint, restore, failed, suspended, noted, recording, handling, is-live, other-recording, felled};
+use base::CR_FIELDS;
+use base::GPRS;
 use transaction::Cause;
 use transaction::Touch;
 use transaction::Transaction;
@@ -11,8 +13,8 @@ use transaction::Write;
 // 32 general registers, and CR fields 1 to 7: cr[0] is field 1. CR0 stands apart, since no checkpoint holds it.
 #[repr(C)]
 pub struct Registers {
-    pub gpr: [u64; 32],
-    pub cr: [u8; 7],
+    pub gpr: [u64; GPRS],
+    pub cr: [u8; CR_FIELDS],
 }
 
 // Non-transactional, Transactional, Suspended.

@@ -1,5 +1,5 @@
--- What a transaction holds: read set, write set and log (document 01, "The machine"), and what loads, stores, commit and discard do to it
--- ("Loads, stores and conflicts", (a) and (d); tend.).
+-- What a transaction holds: read set, write set and log (rules M9 to M13), and what loads, stores, commit and discard do to it
+-- (rules A1 and A4; E2).
 use Prim.Native.Nat.{ℕ, zero, suc, _+_, _/_}
 use mathlib.Core.Bool.{Bool, false, not, cond, _&&_, _||_}
 use mathlib.Core.List.{List}

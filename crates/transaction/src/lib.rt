@@ -1,4 +1,4 @@
-// What a transaction holds: read set, write set and log (document 01, "The machine", "Loads, stores and conflicts").
+// What a transaction holds: read set, write set and log (rules M9 to M13, A1 and A4).
 ghost use mathlib.Core.Path.{_≡_};
 ghost use mathlib.Core.Bool.{false};
 ghost use Prim.Native.Nat.{_<_, _≤_};
