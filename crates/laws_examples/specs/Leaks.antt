@@ -18,7 +18,8 @@ use Rattle.power_common.specs.Common.{gpr, put-gpr}
 use Rattle.power_effect.specs.Effects.{effect}
 use Rattle.machine.specs.Machine.{thread, with-threads, fresh-thread}
 use Rattle.refusal.specs.Refusal.{refusal}
-use Rattle.step.specs.Step.{outcome, applied, perform, Fed, from}
+use Rattle.step.specs.Step.{outcome, applied, perform}
+use Rattle.step.specs.Feed.{Fed, from}
 use Rattle.laws_secrecy.specs.Secrecy.{Stepping, Until, SecretOf}
 use Rattle.laws_examples.specs.Examples.{open-thread, Example, start, ToldApart, Each}
 

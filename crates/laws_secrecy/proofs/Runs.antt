@@ -13,7 +13,8 @@ use Rattle.base.proofs.Below.{fork}
 use Rattle.event.specs.declared.Event.{Event}
 use Rattle.machine.specs.Machine.{thread}
 use Rattle.machine.specs.Valid.{valid}
-use Rattle.step.specs.Step.{Outcome, outcome, step, from}
+use Rattle.step.specs.Step.{Outcome, outcome, step}
+use Rattle.step.specs.Feed.{from}
 use Rattle.refusal.specs.Refusal.{in-t}
 use Rattle.machine.specs.declared.Machine.{Machine}
 use Rattle.machine.proofs.Validity.{valid-passes}

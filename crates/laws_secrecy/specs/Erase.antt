@@ -13,7 +13,8 @@ use Rattle.thread.specs.declared.Thread.{Thread}
 use Rattle.event.specs.declared.Event.{Event}
 use Rattle.machine.specs.Machine.{thread, with-threads}
 use Rattle.machine.specs.Valid.{valid}
-use Rattle.step.specs.Step.{outcome, step, from}
+use Rattle.step.specs.Step.{outcome, step}
+use Rattle.step.specs.Feed.{from}
 use Rattle.machine.specs.declared.Machine.{Machine}
 use Rattle.laws_secrecy.specs.Secrecy.{Alike, allowed, Agree}
 

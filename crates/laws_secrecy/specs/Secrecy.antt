@@ -15,7 +15,8 @@ use Rattle.power_begins.specs.Begins.{commits}
 use Rattle.machine.specs.Machine.{thread}
 use Rattle.machine.specs.Valid.{valid}
 use Rattle.refusal.specs.Refusal.{in-t, refusal}
-use Rattle.step.specs.Step.{Outcome, outcome, step, Fed, feed}
+use Rattle.step.specs.Step.{Outcome, outcome, step}
+use Rattle.step.specs.Feed.{Fed, feed}
 use Rattle.machine.specs.declared.Machine.{Machine}
 
 -- two threads alike except for their live registers (general registers and CR fields, CR0 too) and the values in their logs; both are Transactional

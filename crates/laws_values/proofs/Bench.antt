@@ -22,7 +22,8 @@ use Rattle.machine.specs.Machine.{fresh, fresh-thread}
 use Rattle.machine.specs.Valid as valid
 use Rattle.refusal.specs.Refusal.{bad-thing, refused-there, refused-later}
 use Rattle.conflict.specs.Conflict.{hits, struck, strike, others}
-use Rattle.step.specs.Step.{Outcome, outcome, Fed, after, perform, step}
+use Rattle.step.specs.Step.{Outcome, outcome, perform, step}
+use Rattle.step.specs.Feed.{Fed, after}
 use Rattle.refusal.proofs.Laws.{refusal-valid}
 use Rattle.laws_keeping.proofs.Keeping.{keeps}
 use Rattle.laws_values.specs.Bench.{Case, Expect, met, all-met, told, holds, all-hold, table, k1, k2, k3, k4, k5, k6, k6-done, k7, k7-done, k8, k9, k10, k10-not}

@@ -18,7 +18,8 @@ use borrow.Author.Tests.{eq-eqb, ne-eqb, eqb-true}
 use Rattle.base.specs.Limits.{lines, words}
 use Rattle.base.specs.Below.{bit, all-below, any-below, count-below}
 use Rattle.base.proofs.Below.{all-at, all-from, all-cong, all-add, any-at, any-false, any-false-at, any-witness, any-cong, any-add, count-low, count-cong, count-le, count-add, count-one, and-intro, bit-lt, bit-test, digit-bit}
-use Rattle.lines.specs.Lines.{place, word, empty, has, with, meets, footprint, shared, alike, joined}
+use Rattle.lines.specs.Lines.{place, word, empty, has, with, meets, footprint}
+use Rattle.lines.specs.Inner.{shared, alike, joined}
 use Rattle.lines.specs.declared.LineSet.{LineSet}
 
 -- ---- the places of a word

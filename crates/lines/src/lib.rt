@@ -2,7 +2,8 @@
 ghost use mathlib.Core.Path.{_≡_};
 ghost use Prim.Native.Nat.{_<_};
 ghost use Rattle.base.specs.Limits.{lines};
-ghost use Rattle.lines.specs.Lines.{empty, has, with, meets, same, footprint, joined, shared, alike};
+ghost use Rattle.lines.specs.Inner.{same, joined, shared, alike};
+ghost use Rattle.lines.specs.Lines.{empty, has, with, meets, footprint};
 use base::WORDS;
 
 #[repr(C)]

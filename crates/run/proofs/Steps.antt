@@ -12,7 +12,8 @@ use Rattle.event.specs.declared.Event.{Event}
 use Rattle.machine.specs.Machine.{thread}
 use Rattle.machine.specs.Valid.{machine-number, first-of}
 use Rattle.refusal.specs.Refusal.{refusal}
-use Rattle.step.specs.Step.{Outcome, outcome, perform, step, Fed, feed, from}
+use Rattle.step.specs.Step.{Outcome, outcome, perform, step}
+use Rattle.step.specs.Feed.{Fed, feed, from}
 use Rattle.machine.specs.declared.Machine.{Machine}
 use Rattle.step.proofs.Laws.{step-refused, step-passed}
 use Rattle.tape.specs.Tape.{record-size, read}

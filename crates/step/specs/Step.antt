@@ -1,7 +1,7 @@
 -- One event: refused by a number with nothing changed, or done on its own thread, on the others and on memory.
 use Prim.Native.Nat.{ℕ}
 use mathlib.Core.Bool.{cond}
-use mathlib.Core.List.{List, [], _∷_}
+use mathlib.Core.List.{List}
 use lib.Dec.{eqb}
 use lib.ListN.{set, length}
 use Rattle.transaction.specs.Transaction.{written}
@@ -35,18 +35,3 @@ perform m mem w e = applied m mem w (effect e (thread (m .threads) w) mem)
 unfoldable pub step : Machine → List ℕ → ℕ → Event → Outcome
 step m mem w e =
     cond (eqb (refusal m (length mem) w e) 0) (perform m mem w e) (outcome (refusal m (length mem) w e) m mem)
-
--- events fed one by one, each by its thread; a refused event changes nothing
-pub record Fed : Type 0 where
-  pub by : ℕ
-  pub event : Event
-
-abbrev pub from : ℕ → Event → Fed
-from w e = record { by = w; event = e }
-
-abbrev pub after : Outcome → Fed → Outcome
-after o f = step (o .done .machine) (o .memory) (f .by) (f .event)
-
-unfoldable pub feed : List Fed → Outcome → Outcome
-feed [] o = o
-feed (f ∷ fs) o = feed fs (after o f)

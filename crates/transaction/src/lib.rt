@@ -160,8 +160,8 @@ pub fn store_at(x: Transaction, at: Found, index: u32, value: u64) -> Transactio
     let mut y = x;
     y.writes = s;
     match at {
-        Found::At(n) => {
-            y.log[n] = e;
+        Found::At(p) => {
+            y.log[p] = e;
             y
         }
         Found::Absent => {

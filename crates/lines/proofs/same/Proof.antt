@@ -7,7 +7,7 @@ use native.Mathlib.Omega.{arith}
 use Rattle.base.specs.Limits.{words}
 use Rattle.base.specs.Below.{all-below}
 use Rattle.base.proofs.Below.{all-none, flag-true, flag-false}
-use Rattle.lines.specs.Lines.{same}
+use Rattle.lines.specs.Inner.{same}
 use Rattle.lines.proofs.Laws.{agree, same-more}
 use Rattle.lines.proofs.same.Statement.{statement}
 use Rattle.lines.proofs.same.Tie as tie

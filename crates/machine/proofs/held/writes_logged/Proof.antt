@@ -4,7 +4,8 @@ use mathlib.Core.Path.{ap, _∙_}
 use mathlib.Core.Bool.{Bool·beq}
 use Rattle.base.specs.Limits.{lines}
 use Rattle.base.proofs.Below.{all-cong}
-use Rattle.lines.specs.Lines.{has, same}
+use Rattle.lines.specs.Lines.{has}
+use Rattle.lines.specs.Inner.{same}
 use Rattle.machine.specs.Valid.{writes-logged, line-logged}
 use Rattle.machine.proofs.held.writes_logged.Statement.{statement}
 use Rattle.machine.proofs.held.writes_logged.Tie as tie

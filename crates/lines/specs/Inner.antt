@@ -1,0 +1,21 @@
+-- What the code's own contracts cite beside the rules: sets compared, and two words of them.
+use Prim.Native.Nat.{ℕ}
+use mathlib.Core.Bool.{Bool, _&&_, _||_, Bool·beq}
+use Rattle.base.specs.Limits.{lines}
+use Rattle.base.specs.Below.{all-below, any-below, count-below}
+use Rattle.lines.specs.Lines.{place, has}
+use Rattle.lines.specs.declared.LineSet.{LineSet}
+
+-- two sets hold the same lines
+unfoldable pub same : LineSet → LineSet → Bool
+same a b = all-below (λ l. Bool·beq (has a l) (has b l)) lines
+
+-- of two words: a place is set in both; the same places are set; how many places are set in either
+unfoldable pub shared : ℕ → ℕ → Bool
+shared a b = any-below (λ i. place a i && place b i) 64
+
+unfoldable pub alike : ℕ → ℕ → Bool
+alike a b = all-below (λ i. Bool·beq (place a i) (place b i)) 64
+
+unfoldable pub joined : ℕ → ℕ → ℕ
+joined a b = count-below (λ i. place a i || place b i) 64
