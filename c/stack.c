@@ -1,0 +1,84 @@
+/* How much stack each call takes, held to what naszeptan.h promises. Each call
+ * runs on a stack of its own that is filled with one byte before; what has
+ * changed afterwards was used. */
+#define _XOPEN_SOURCE 700
+#include <stdio.h>
+#include <stdlib.h>
+#include <string.h>
+#include <ucontext.h>
+
+#include "naszeptan.h"
+
+enum { PROMISED = 256 * 1024, SIZE = 1024 * 1024, FILL = 0xA5, RECORDS = 64 };
+
+static unsigned char stack[SIZE];
+static uint64_t memory[NASZEPTAN_MEMORY];
+static uint8_t tape[RECORDS * NASZEPTAN_RECORD_SIZE];
+static struct naszeptan_machine machine;
+static ucontext_t back, there;
+static volatile unsigned answer;
+
+/* Events that fill a log, fail and commit: tbegin., stores, an abort. */
+static void fill_tape(void) {
+  for (int k = 0; k < RECORDS; k++) {
+    struct naszeptan_event e = {.kind = NASZEPTAN_STD, .ra = 3};
+    e.index = (uint32_t)(k * 7 % 256);
+    if (k % 16 == 0)
+      e = (struct naszeptan_event){.kind = NASZEPTAN_TBEGIN};
+    if (k % 16 == 15)
+      e = (struct naszeptan_event){.kind = k % 32 == 31 ? NASZEPTAN_TEND
+                                                        : NASZEPTAN_TABORT};
+    naszeptan_write(e, tape + k * NASZEPTAN_RECORD_SIZE, NASZEPTAN_RECORD_SIZE);
+  }
+}
+
+static void nothing(void) { answer = 0; }
+
+static void valid(void) { answer = naszeptan_valid(machine, NASZEPTAN_MEMORY); }
+
+static void step(void) {
+  struct naszeptan_event e = {.kind = NASZEPTAN_TBEGIN};
+  answer = naszeptan_step(machine, memory, NASZEPTAN_MEMORY, e).answer;
+}
+
+static void run(void) {
+  answer = naszeptan_run(machine, memory, NASZEPTAN_MEMORY, tape, sizeof tape)
+               .answer;
+}
+
+static void reads(void) {
+  answer = naszeptan_read(tape, NASZEPTAN_RECORD_SIZE).answer;
+}
+
+/* The bytes of stack that a call used. */
+static size_t used_by(void (*call)(void)) {
+  memset(stack, FILL, sizeof stack);
+  if (getcontext(&there) != 0)
+    exit(2);
+  there.uc_stack.ss_sp = stack;
+  there.uc_stack.ss_size = sizeof stack;
+  there.uc_link = &back;
+  makecontext(&there, call, 0);
+  if (swapcontext(&back, &there) != 0)
+    exit(2);
+  size_t untouched = 0;
+  while (untouched < sizeof stack && stack[untouched] == FILL)
+    untouched++;
+  return sizeof stack - untouched;
+}
+
+static int held(const char *name, void (*call)(void)) {
+  size_t bytes = used_by(call);
+  printf("stack: %s took %zu bytes of %d, and answered %u\n", name, bytes,
+         PROMISED, answer);
+  return bytes <= PROMISED && answer == 0;
+}
+
+int main(void) {
+  machine = naszeptan_fresh();
+  fill_tape();
+  return held("nothing", nothing) && held("valid", valid) &&
+                 held("step", step) && held("run", run) && held("read", reads)
+             ? 0
+             : 1;
+}
