@@ -64,18 +64,13 @@ unfolding control-of raw-control
 control-forth k =
     λ j. record {
       nia = k .nia;
-      pr = bit-test (k .pr) j;
-      tm = bit-test (k .tm) j;
-      state = state-forth (k .state) j;
-      doomed = bit-test (k .doomed) j;
-      tfhar = k .tfhar;
-      tfiar = k .tfiar;
-      texasr = k .texasr;
+      msr = record { pr = bit-test (k .msr .pr) j; tm = bit-test (k .msr .tm) j; state = state-forth (k .msr .state) j; doomed = bit-test (k .msr .doomed) j };
+      failure = k .failure;
     }
 
 raw-right : (k : Control) → control-right (raw-control k) ≡ true
 unfolding control-right raw-control
-raw-right k = simp (bit-small (k .pr), bit-small (k .tm), state-small (k .state), bit-small (k .doomed))
+raw-right k = simp (bit-small (k .msr .pr), bit-small (k .msr .tm), state-small (k .msr .state), bit-small (k .msr .doomed))
 
 -- ---- threads, machines
 
