@@ -1,11 +1,11 @@
 -- A valid thread with one part anew.
-use mathlib.Core.Path.{_≡_}
+use mathlib.Core.Path.{_≡_, _∙_}
 use mathlib.Core.Bool.{true}
 use mathlib.Core.List.{List, [], _∷_}
 use Prim.Native.Nat.{ℕ, zero, suc, _+_, _-_, _%_, _≤_, _<_}
 use native.Mathlib.Omega.{arith}
 use lib.Dec.{eqb, ltb}
-use lib.ListN.{getD, set, length-set}
+use lib.ListN.{length, getD, set, length-set}
 use borrow.Author.Tests.{lt-ltb}
 use Rattle.base.specs.Limits.{most-footprint, most-levels}
 use Rattle.base.proofs.Below.{fork, all-at, all-from}
@@ -13,6 +13,7 @@ use Rattle.lines.specs.Lines as lineset
 use Rattle.transaction.specs.declared.Transaction.{Transaction}
 use Rattle.power_common.specs.Common.{next, advance, ts-field, cr0-from-state, put-gpr}
 use Rattle.power_reclaims.specs.Reclaims.{put-cr}
+use Rattle.power_effect.proofs.Cases.{with-gprs}
 use Rattle.thread.specs.Texasr.{tl}
 use Rattle.thread.specs.Thread.{with-live, with-cr0, with-control, with-transaction, take-checkpoint}
 use Rattle.thread.specs.declared.Registers.{Registers}
@@ -79,11 +80,13 @@ module _ {s : State} {t : Thread} {len : ℕ} (r : Right s t len) where
   pub from-state : Right s (cr0-from-state t) len
   from-state = with-field _ (let h = ts-small (t .control .msr .state) in omega arith)
 
-  -- one general register, one CR field
-  pub with-gpr : (n v : ℕ) → Right s (put-gpr t n v) len
+  -- the general registers, one of them, one CR field
+  pub with-generals : (g : List ℕ) → length g ≡ length (t .live .gpr) → Right s (with-gprs t g) len
   unfolding cr-small
-  with-gpr n v =
-      with-registers _ (record { gpr = simp length-set (r .file .live .gpr); cr = r .file .live .cr; small = r .file .live .small })
+  with-generals g e = with-registers _ (record { gpr = e ∙ r .file .live .gpr; cr = r .file .live .cr; small = r .file .live .small })
+
+  pub with-gpr : (n v : ℕ) → Right s (put-gpr t n v) len
+  with-gpr n v = with-generals _ (simp length-set)
 
   pub with-cr : (bf f : ℕ) → f < 16 → Right s (put-cr t bf f) len
   unfolding cr-small

@@ -20,16 +20,17 @@ use Rattle.transaction.specs.declared.Write.the-variants.{Unwritten, Doubleword
 use Rattle.transaction.proofs.Laws.{commit-length}
 use Rattle.event.specs.Event.{trechkpt-kind, mtspr-kind, kind, operands-right}
 use Rattle.event.specs.declared.Event.{Event}
-use Rattle.event.specs.declared.Event.the-variants.{Tbegin, Tend, Tabort, Tabortwc, Tabortdc, Tsr, Tcheck, Treclaim, Trechkpt, Mtspr, Mfspr, Ld, Std, Addi, Disallowed, Interrupt, Host}
+use Rattle.event.specs.declared.Event.the-variants.{Trechkpt, Mtspr}
 use Rattle.event.proofs.Laws.{ld-in, std-in}
 use Rattle.power_common.specs.Common.{passes, cr0-from-state, put-gpr, own-recording, fails, dooms, cr0-only, leveled, abort-cause}
 use Rattle.power_access.specs.Access.{tracked, ld-overflows, std-overflows, takes, joins, ld, logs, meets-own, std}
 use Rattle.power_aborts.specs.Aborts.{tabort, tabort-if}
 use Rattle.power_begins.specs.Begins.{begins, tbegin, commits, tend, moves, tsuspend, tresume, tsr}
 use Rattle.power_reclaims.specs.Reclaims.{check-field, tcheck, treclaim, trechkpt}
-use Rattle.power_special.specs.Special.{put-spr, mtspr, mfspr}
-use Rattle.power_plain.specs.Plain.{addi, disallowed, interrupted, interrupt, host}
+use Rattle.power_special.specs.Special.{put-spr, mtspr}
+use Rattle.power_plain.specs.Plain.{disallowed, interrupted, interrupt, host}
 use Rattle.power_effect.specs.Effects.{effect}
+use Rattle.power_effect.proofs.Cases.{Works, effect-by}
 use Rattle.power_common.specs.declared.Did.{Did}
 use Rattle.thread.specs.Texasr.{tl, begun}
 use Rattle.thread.specs.Thread.{with-control, with-failure, failed, recording}
@@ -45,7 +46,7 @@ use Rattle.refusal.specs.Refusal.{host-in-t, off, forbidden, bad-thing, refused
 use Rattle.machine.proofs.Validity.{memory-most}
 use Rattle.laws_keeping.proofs.Held.{join-shaped, store-shaped, join-held, store-held, join-footprint, store-footprint}
 use Rattle.laws_keeping.proofs.Fails.{Filed, Addressed, Live, Rules, Right, right, valid, doomed-empty, undoomed-live, empty-holds, handled, failure-t, failure-s}
-use Rattle.laws_keeping.proofs.Anew.{ts-small, next-aligned, up, down, with-field, saved, with-controls, passed, from-state, with-gpr, with-cr, with-held}
+use Rattle.laws_keeping.proofs.Anew.{ts-small, next-aligned, up, down, with-field, saved, with-controls, passed, from-state, with-generals, with-gpr, with-cr, with-held}
 
 -- what is written leaves memory as long as it was
 pub written-length : (w : Write) (x : Transaction) (mem : List ℕ) → length (transaction.written w x mem) ≡ length mem
@@ -266,27 +267,31 @@ not-bad k e p =
 pub effect-keeps : (e : Event) (t : Thread) (mem : List ℕ) → memory-sized (length mem) ≡ true → thread-valid t (length mem) ≡ true
     → operands-right e (length mem) ≡ true → refused-there (t .control) e ≡ 0
     → thread-valid (effect e t mem .thread) (length mem) ≡ true
-unfolding effect kind tsr mfspr addi
-effect-keeps e t mem z h o q = go e o q
+unfolding effect kind tsr
+effect-keeps e t mem z h o q =
+    effect-by Keeps
+    (record {
+      tbegin = λ b o q. tbegin-fine t _ _ b r;
+      tend = λ a o q. tend-fine t _ _ a r;
+      tabort = λ ra o q. tabort-fine t _ _ _ r;
+      tabortwc = λ to ra rb o q. tabort-if-fine t _ _ r;
+      tabortdc = λ to ra rb o q. tabort-if-fine t _ _ r;
+      tsr = λ l o q. fork (Fine (length mem)) l (λ p. tresume-fine t _ _ r) (λ p. tsuspend-fine t _ _ r);
+      tcheck = λ bf o q. tcheck-fine t _ bf r;
+      treclaim = λ ra o q. treclaim-fine t _ ra r;
+      trechkpt = λ o q. trechkpt-fine t _ _ (not-bad _ Trechkpt q) r;
+      mtspr = λ spr ra o q. mtspr-fine t _ _ spr ra (not-bad _ (Mtspr spr ra) q) r;
+      ld = λ rt i o q. let l = ld-in rt i _ o .1 in ld-fine t _ i l (line-below i _ z l) _ rt mem r;
+      std = λ ra i o q. let l = std-in ra i _ o .1 in std-fine t _ i l (line-below i _ z l) _ _ r;
+      disallowed = λ o q. disallowed-fine t _ _ r;
+      interrupt = λ o q. interrupt-fine t _ _ r;
+      host = λ pr tm o q. host-fine t _ pr tm r;
+      registers = λ e g s o q. valid (passed (with-generals r (g t) (s t)));
+    })
+    e o q
   where
     r : Right (t .control .msr .state) t (length mem)
     r = right _ t _ refl h
 
-    go : (e : Event) → operands-right e (length mem) ≡ true → refused-there (t .control) e ≡ 0 → Does (length mem) (effect e t mem)
-    go (Tbegin b) o q = tbegin-fine t _ _ b r
-    go (Tend a) o q = tend-fine t _ _ a r
-    go (Tabort ra) o q = tabort-fine t _ _ _ r
-    go (Tabortwc to ra rb) o q = tabort-if-fine t _ _ r
-    go (Tabortdc to ra rb) o q = tabort-if-fine t _ _ r
-    go (Tsr l) o q = fork (Fine (length mem)) l (λ p. tresume-fine t _ _ r) (λ p. tsuspend-fine t _ _ r)
-    go (Tcheck bf) o q = tcheck-fine t _ bf r
-    go (Treclaim ra) o q = treclaim-fine t _ ra r
-    go Trechkpt o q = trechkpt-fine t _ _ (not-bad _ Trechkpt q) r
-    go (Mtspr spr ra) o q = mtspr-fine t _ _ spr ra (not-bad _ (Mtspr spr ra) q) r
-    go (Mfspr rt spr) o q = gpr-fine t _ rt _ r
-    go (Ld rt i) o q = let l = ld-in rt i _ o .1 in ld-fine t _ i l (line-below i _ z l) _ rt mem r
-    go (Std ra i) o q = let l = std-in ra i _ o .1 in std-fine t _ i l (line-below i _ z l) _ _ r
-    go (Addi rt ra si) o q = gpr-fine t _ rt _ r
-    go Disallowed o q = disallowed-fine t _ _ r
-    go Interrupt o q = interrupt-fine t _ _ r
-    go (Host pr tm) o q = host-fine t _ pr tm r
+    Keeps : Event → Works → Type 0
+    Keeps e f = operands-right e (length mem) ≡ true → refused-there (t .control) e ≡ 0 → Does (length mem) (f t mem)

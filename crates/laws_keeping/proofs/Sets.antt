@@ -22,16 +22,16 @@ use Rattle.thread.specs.declared.Thread.{Thread}
 use Rattle.thread.specs.declared.Effect.{Effect}
 use Rattle.event.specs.Event.{operands-right}
 use Rattle.event.specs.declared.Event.{Event}
-use Rattle.event.specs.declared.Event.the-variants.{Tbegin, Tend, Tabort, Tabortwc, Tabortdc, Tsr, Tcheck, Treclaim, Trechkpt, Mtspr, Mfspr, Ld, Std, Addi, Disallowed, Interrupt, Host}
 use Rattle.event.proofs.Laws.{ld-in, std-in}
 use Rattle.power_common.specs.Common.{cr0-from-state, fails, dooms}
 use Rattle.power_access.specs.Access.{takes, tracked, loads, ld-overflows, std-overflows, ld, logs, meets-own, std}
 use Rattle.power_aborts.specs.Aborts.{tabort, tabort-if}
 use Rattle.power_begins.specs.Begins.{tbegin, commits, tend, tsuspend, tresume, tsr}
 use Rattle.power_reclaims.specs.Reclaims.{tcheck, treclaim, trechkpt}
-use Rattle.power_special.specs.Special.{mtspr, mfspr}
-use Rattle.power_plain.specs.Plain.{addi, disallowed, interrupt, host}
+use Rattle.power_special.specs.Special.{mtspr}
+use Rattle.power_plain.specs.Plain.{disallowed, interrupt, host}
 use Rattle.power_effect.specs.Effects.{effect}
+use Rattle.power_effect.proofs.Cases.{effect-by}
 use Rattle.power_common.specs.declared.Did.{Did}
 use Rattle.machine.specs.Valid.{memory-sized, thread-valid}
 use Rattle.laws_keeping.proofs.Held.{Shaped, join-has, store-has, store-reads, empty-touches}
@@ -161,24 +161,28 @@ module _ (t : Thread) (i : ℕ) (below : transaction.line i < lines) where
   std-leaves S v = shed (meets-own-sheds t i)
 
 effect-leaves : (e : Event) (t : Thread) (mem : List ℕ) → memory-sized (length mem) ≡ true → operands-right e (length mem) ≡ true → Leaves t (effect e t mem)
-unfolding effect treclaim trechkpt mtspr mfspr addi interrupt host transaction.discard
-effect-leaves (Tbegin r) t mem z o = shed (tbegin-sheds t (t .control .msr .state) r)
-effect-leaves (Tend a) t mem z o = shed (tend-sheds t (t .control .msr .state) a)
-effect-leaves (Tabort ra) t mem z o = shed (tabort-sheds t (t .control .msr .state) _)
-effect-leaves (Tabortwc to ra rb) t mem z o = shed (tabort-if-sheds t _)
-effect-leaves (Tabortdc to ra rb) t mem z o = shed (tabort-if-sheds t _)
-effect-leaves (Tsr l) t mem z o = shed (tsr-sheds t l)
-effect-leaves (Tcheck bf) t mem z o = shed (tcheck-sheds t bf)
-effect-leaves (Treclaim ra) t mem z o = shed (inr refl)
-effect-leaves Trechkpt t mem z o = shed (inl refl)
-effect-leaves (Mtspr spr ra) t mem z o = shed (inl refl)
-effect-leaves (Mfspr rt spr) t mem z o = shed (inl refl)
-effect-leaves (Ld rt i) t mem z o = ld-leaves t i (line-below i _ z (ld-in rt i _ o .1)) (t .control .msr .state) rt mem
-effect-leaves (Std ra i) t mem z o = std-leaves t i (line-below i _ z (std-in ra i _ o .1)) (t .control .msr .state) _
-effect-leaves (Addi rt ra si) t mem z o = shed (inl refl)
-effect-leaves Disallowed t mem z o = shed (disallowed-sheds t (t .control .msr .state))
-effect-leaves Interrupt t mem z o = shed (inl refl)
-effect-leaves (Host pr tm) t mem z o = shed (inl refl)
+unfolding effect treclaim trechkpt mtspr interrupt host transaction.discard
+effect-leaves e t mem z o =
+    effect-by (λ e f. operands-right e (length mem) ≡ true → Leaves t (f t mem))
+    (record {
+      tbegin = λ r o. shed (tbegin-sheds t (t .control .msr .state) r);
+      tend = λ a o. shed (tend-sheds t (t .control .msr .state) a);
+      tabort = λ ra o. shed (tabort-sheds t (t .control .msr .state) _);
+      tabortwc = λ to ra rb o. shed (tabort-if-sheds t _);
+      tabortdc = λ to ra rb o. shed (tabort-if-sheds t _);
+      tsr = λ l o. shed (tsr-sheds t l);
+      tcheck = λ bf o. shed (tcheck-sheds t bf);
+      treclaim = λ ra o. shed (inr refl);
+      trechkpt = λ o. shed (inl refl);
+      mtspr = λ spr ra o. shed (inl refl);
+      ld = λ rt i o. ld-leaves t i (line-below i _ z (ld-in rt i _ o .1)) (t .control .msr .state) rt mem;
+      std = λ ra i o. std-leaves t i (line-below i _ z (std-in ra i _ o .1)) (t .control .msr .state) _;
+      disallowed = λ o. shed (disallowed-sheds t (t .control .msr .state));
+      interrupt = λ o. shed (inl refl);
+      host = λ pr tm o. shed (inl refl);
+      registers = λ e g s o. shed (inl refl);
+    })
+    e o
 
 -- ---- the lines of what is left
 

@@ -30,15 +30,15 @@ use Rattle.thread.specs.declared.Thread.{Thread}
 use Rattle.thread.specs.declared.Effect.{Effect}
 use Rattle.event.specs.Event.{trechkpt-kind, mtspr-kind, kind}
 use Rattle.event.specs.declared.Event.{Event}
-use Rattle.event.specs.declared.Event.the-variants.{Tbegin, Tend, Tabort, Tabortwc, Tabortdc, Tsr, Tcheck, Treclaim, Trechkpt, Mtspr, Mfspr, Ld, Std, Addi, Disallowed, Interrupt, Host}
+use Rattle.event.specs.declared.Event.the-variants.{Trechkpt, Mtspr}
 use Rattle.power_common.specs.Common.{did, doing, quiet, passes, gpr, fails, abort-cause}
 use Rattle.power_access.specs.Access.{tracked, ld-overflows, takes, loads, ld, stores, logs, std}
 use Rattle.power_aborts.specs.Aborts.{tabort}
 use Rattle.power_begins.specs.Begins.{tbegin, commits, tend, tresume, tsr}
 use Rattle.power_reclaims.specs.Reclaims.{tcheck, treclaim}
-use Rattle.power_special.specs.Special.{mfspr}
-use Rattle.power_plain.specs.Plain.{addi, disallowed, host}
+use Rattle.power_plain.specs.Plain.{disallowed, host}
 use Rattle.power_effect.specs.Effects.{effect}
+use Rattle.power_effect.proofs.Cases.{effect-by}
 use Rattle.power_common.specs.declared.Did.{Did}
 use Rattle.refusal.specs.Refusal.{bad-thing, refused-there}
 use Rattle.laws_keeping.proofs.Effects.{not-bad}
@@ -190,25 +190,30 @@ module _ (t : Thread) (r : Registers) (f : ℕ) (es : List Entry) (p : t .contro
   here P h = subst P (sym p) h
 
   effect-even : (e : Event) (mem : List ℕ) → tells e t ≡ false → refused-there (t .control) e ≡ 0 → EvenEffect (effect e t mem) (effect e (beside t r f es) mem)
-  unfolding effect tells kind bad-thing tsr mfspr addi host
-  effect-even (Tbegin b) mem n o = here (λ s. Evenly (tbegin s t b) (tbegin s (beside t r f es) b)) (tbegin-even b)
-  effect-even (Tend a) mem n o = here (λ s. EvenEffect (tend s t a) (tend s (beside t r f es) a)) (tend-even a n)
-  effect-even (Tabort ra) mem n o =
-      here (λ s. Evenly (tabort s t (abort-cause t ra)) (tabort s (beside t r f es) (abort-cause (beside t r f es) ra))) (tabort-even ra (not-false _ n))
-  effect-even (Tabortwc to ra rb) mem n o = absurd (true≢false n)
-  effect-even (Tabortdc to ra rb) mem n o = absurd (true≢false n)
-  effect-even (Tsr l) mem n o = simp (not-false l n) (here (λ s. Evenly (tresume s t) (tresume s (beside t r f es))) tresume-even)
-  effect-even (Tcheck bf) mem n o = tcheck-even bf
-  effect-even (Treclaim ra) mem n o = treclaim-even ra (not-false _ n)
-  effect-even Trechkpt mem n o = absurd (barred (t .control) Trechkpt (here (λ s. bad-thing s (t .control) trechkpt-kind ≡ true) refl) o)
-  effect-even (Mtspr spr ra) mem n o = absurd (barred (t .control) (Mtspr spr ra) (here (λ s. bad-thing s (t .control) mtspr-kind ≡ true) refl) o)
-  effect-even (Mfspr rt spr) mem n o = goes p q
-  effect-even (Ld rt i) mem n o = here (λ s. EvenEffect (ld s t rt i mem) (ld s (beside t r f es) rt i mem)) (ld-even rt i mem)
-  effect-even (Std ra i) mem n o = here (λ s. EvenEffect (std s t (gpr t ra) i) (std s (beside t r f es) (gpr (beside t r f es) ra) i)) (std-even _ _ i)
-  effect-even (Addi rt ra si) mem n o = goes p q
-  effect-even Disallowed mem n o = here (λ s. Evenly (disallowed s t) (disallowed s (beside t r f es))) disallowed-even
-  effect-even Interrupt mem n o = absurd (true≢false n)
-  effect-even (Host pr tm) mem n o = goes p q
+  unfolding effect tells kind bad-thing tsr host
+  effect-even e mem n o =
+      effect-by (λ e does. tells e t ≡ false → refused-there (t .control) e ≡ 0 → EvenEffect (does t mem) (does (beside t r f es) mem))
+      (record {
+        tbegin = λ b n o. here (λ s. Evenly (tbegin s t b) (tbegin s (beside t r f es) b)) (tbegin-even b);
+        tend = λ a n o. here (λ s. EvenEffect (tend s t a) (tend s (beside t r f es) a)) (tend-even a n);
+        tabort =
+            λ ra n o.
+            here (λ s. Evenly (tabort s t (abort-cause t ra)) (tabort s (beside t r f es) (abort-cause (beside t r f es) ra))) (tabort-even ra (not-false _ n));
+        tabortwc = λ to ra rb n o. absurd (true≢false n);
+        tabortdc = λ to ra rb n o. absurd (true≢false n);
+        tsr = λ l n o. simp (not-false l n) (here (λ s. Evenly (tresume s t) (tresume s (beside t r f es))) tresume-even);
+        tcheck = λ bf n o. tcheck-even bf;
+        treclaim = λ ra n o. treclaim-even ra (not-false _ n);
+        trechkpt = λ n o. absurd (barred (t .control) Trechkpt (here (λ s. bad-thing s (t .control) trechkpt-kind ≡ true) refl) o);
+        mtspr = λ spr ra n o. absurd (barred (t .control) (Mtspr spr ra) (here (λ s. bad-thing s (t .control) mtspr-kind ≡ true) refl) o);
+        ld = λ rt i n o. here (λ s. EvenEffect (ld s t rt i mem) (ld s (beside t r f es) rt i mem)) (ld-even rt i mem);
+        std = λ ra i n o. here (λ s. EvenEffect (std s t (gpr t ra) i) (std s (beside t r f es) (gpr (beside t r f es) ra) i)) (std-even _ _ i);
+        disallowed = λ n o. here (λ s. Evenly (disallowed s t) (disallowed s (beside t r f es))) disallowed-even;
+        interrupt = λ n o. absurd (true≢false n);
+        host = λ pr tm n o. goes p q;
+        registers = λ e g s n o. goes p q;
+      })
+      e n o
 
 -- two threads alike
 module _ {t u : Thread} (a : AlikeThread t u) where

@@ -15,11 +15,11 @@ use Rattle.thread.specs.declared.Thread.{Thread}
 use Rattle.thread.specs.declared.Effect.{Effect}
 use Rattle.event.specs.Event.{operands-right}
 use Rattle.event.specs.declared.Event.{Event}
-use Rattle.event.specs.declared.Event.the-variants.{Tbegin, Tend, Tabort, Tabortwc, Tabortdc, Tsr, Tcheck, Treclaim, Trechkpt, Mtspr, Mfspr, Ld, Std, Addi, Disallowed, Interrupt, Host}
 use Rattle.event.proofs.Laws.{ld-in, std-in}
 use Rattle.power_begins.specs.Begins.{commits, tend}
 use Rattle.power_access.specs.Access.{ld-overflows, std-overflows, ld, logs, std}
 use Rattle.power_effect.specs.Effects.{effect}
+use Rattle.power_effect.proofs.Cases.{effect-by}
 
 abbrev Touches : Effect → Type 0
 Touches f = Lined (f .touch)
@@ -45,20 +45,24 @@ module _ (t : Thread) (i : ℕ) (below : line i < lines) where
 
 pub effect-lined : (e : Event) (t : Thread) (mem : List ℕ) → operands-right e (length mem) ≡ true → length mem ≤ line-size * lines → Touches (effect e t mem)
 unfolding effect
-effect-lined (Tbegin r) t mem o h = tt
-effect-lined (Tend a) t mem o h = tend-lined (t .control .msr .state) t a
-effect-lined (Tabort ra) t mem o h = tt
-effect-lined (Tabortwc to ra rb) t mem o h = tt
-effect-lined (Tabortdc to ra rb) t mem o h = tt
-effect-lined (Tsr l) t mem o h = tt
-effect-lined (Tcheck bf) t mem o h = tt
-effect-lined (Treclaim ra) t mem o h = tt
-effect-lined Trechkpt t mem o h = tt
-effect-lined (Mtspr spr ra) t mem o h = tt
-effect-lined (Mfspr rt spr) t mem o h = tt
-effect-lined (Ld rt i) t mem o h = let l = ld-in rt i _ o .1 in ld-lined t i (omega arith) (t .control .msr .state) rt mem
-effect-lined (Std ra i) t mem o h = let l = std-in ra i _ o .1 in std-lined t i (omega arith) (t .control .msr .state) _
-effect-lined (Addi rt ra si) t mem o h = tt
-effect-lined Disallowed t mem o h = tt
-effect-lined Interrupt t mem o h = tt
-effect-lined (Host pr tm) t mem o h = tt
+effect-lined e t mem o h =
+    effect-by (λ e f. operands-right e (length mem) ≡ true → Touches (f t mem))
+    (record {
+      tbegin = λ r o. tt;
+      tend = λ a o. tend-lined (t .control .msr .state) t a;
+      tabort = λ ra o. tt;
+      tabortwc = λ to ra rb o. tt;
+      tabortdc = λ to ra rb o. tt;
+      tsr = λ l o. tt;
+      tcheck = λ bf o. tt;
+      treclaim = λ ra o. tt;
+      trechkpt = λ o. tt;
+      mtspr = λ spr ra o. tt;
+      ld = λ rt i o. let l = ld-in rt i _ o .1 in ld-lined t i (omega arith) (t .control .msr .state) rt mem;
+      std = λ ra i o. let l = std-in ra i _ o .1 in std-lined t i (omega arith) (t .control .msr .state) _;
+      disallowed = λ o. tt;
+      interrupt = λ o. tt;
+      host = λ pr tm o. tt;
+      registers = λ e g s o. tt;
+    })
+    e o

@@ -11,7 +11,6 @@ use Rattle.transaction.specs.declared.Cause.{Cause}
 use Rattle.transaction.specs.declared.Cause.the-variants.{Nesting, Footprint, OwnStore}
 use Rattle.thread.specs.Texasr.{tl}
 use Rattle.event.specs.declared.Event.{Event}
-use Rattle.event.specs.declared.Event.the-variants.{Tbegin, Tend, Tabort, Tabortwc, Tabortdc, Tsr, Tcheck, Treclaim, Trechkpt, Mtspr, Mfspr, Ld, Std, Addi, Disallowed, Interrupt, Host}
 use Rattle.thread.specs.Thread.{failed}
 use Rattle.thread.specs.declared.State.{State}
 use Rattle.thread.specs.declared.State.the-variants.{N, T, S}
@@ -23,9 +22,10 @@ use Rattle.power_access.specs.Access.{ld-overflows, std-overflows, ld, logs, me
 use Rattle.power_aborts.specs.Aborts.{tabort, tabort-if}
 use Rattle.power_begins.specs.Begins.{tbegin, commits, tend, tsuspend, tresume, tsr}
 use Rattle.power_reclaims.specs.Reclaims.{tcheck, treclaim, trechkpt}
-use Rattle.power_special.specs.Special.{mtspr, mfspr}
-use Rattle.power_plain.specs.Plain.{addi, disallowed, interrupt, host}
+use Rattle.power_special.specs.Special.{mtspr}
+use Rattle.power_plain.specs.Plain.{disallowed, interrupt, host}
 use Rattle.power_effect.specs.Effects.{effect}
+use Rattle.power_effect.proofs.Cases.{effect-by}
 use Rattle.power_common.specs.declared.Did.{Did}
 use Rattle.run.specs.Run.{goes-on}
 
@@ -98,21 +98,25 @@ disallowed-done T t = fails-done t _
 disallowed-done S t = refl
 
 pub effect-done : (e : Event) (t : Thread) (mem : List ℕ) → Does (effect e t mem)
-unfolding effect tsr tcheck treclaim trechkpt mtspr mfspr addi interrupt host
-effect-done (Tbegin r) t mem = tbegin-done (t .control .msr .state) t r
-effect-done (Tend a) t mem = tend-done (t .control .msr .state) t a
-effect-done (Tabort ra) t mem = tabort-done (t .control .msr .state) t (abort-cause t ra)
-effect-done (Tabortwc to ra rb) t mem = tabort-if-done t (holds-in-words to (gpr t ra) (gpr t rb))
-effect-done (Tabortdc to ra rb) t mem = tabort-if-done t (holds-in-doublewords to (gpr t ra) (gpr t rb))
-effect-done (Tsr l) t mem = fork Done l (λ e. tresume-done (t .control .msr .state) t) (λ e. tsuspend-done (t .control .msr .state) t)
-effect-done (Tcheck bf) t mem = refl
-effect-done (Treclaim ra) t mem = refl
-effect-done Trechkpt t mem = refl
-effect-done (Mtspr spr ra) t mem = refl
-effect-done (Mfspr rt spr) t mem = refl
-effect-done (Ld rt i) t mem = ld-done (t .control .msr .state) t rt i mem
-effect-done (Std ra i) t mem = std-done (t .control .msr .state) t (gpr t ra) i
-effect-done (Addi rt ra si) t mem = refl
-effect-done Disallowed t mem = disallowed-done (t .control .msr .state) t
-effect-done Interrupt t mem = refl
-effect-done (Host pr tm) t mem = refl
+unfolding effect tsr tcheck treclaim trechkpt mtspr interrupt host
+effect-done e t mem =
+    effect-by (λ e f. Does (f t mem))
+    (record {
+      tbegin = λ r. tbegin-done (t .control .msr .state) t r;
+      tend = λ a. tend-done (t .control .msr .state) t a;
+      tabort = λ ra. tabort-done (t .control .msr .state) t (abort-cause t ra);
+      tabortwc = λ to ra rb. tabort-if-done t (holds-in-words to (gpr t ra) (gpr t rb));
+      tabortdc = λ to ra rb. tabort-if-done t (holds-in-doublewords to (gpr t ra) (gpr t rb));
+      tsr = λ l. fork Done l (λ e. tresume-done (t .control .msr .state) t) (λ e. tsuspend-done (t .control .msr .state) t);
+      tcheck = λ bf. refl;
+      treclaim = λ ra. refl;
+      trechkpt = refl;
+      mtspr = λ spr ra. refl;
+      ld = λ rt i. ld-done (t .control .msr .state) t rt i mem;
+      std = λ ra i. std-done (t .control .msr .state) t (gpr t ra) i;
+      disallowed = disallowed-done (t .control .msr .state) t;
+      interrupt = refl;
+      host = λ pr tm. refl;
+      registers = λ e g s. refl;
+    })
+    e

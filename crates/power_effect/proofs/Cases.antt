@@ -1,0 +1,63 @@
+-- The effects by cases. The kinds whose effect only sets general registers and goes on are one case: a law that goes by these cases need
+-- not name them, nor a new kind of that sort.
+use mathlib.Core.Path.{_≡_, refl}
+use mathlib.Core.Bool.{Bool}
+use mathlib.Core.List.{List}
+use Prim.Native.Nat.{ℕ}
+use lib.ListN.{length, set, length-set}
+use Rattle.thread.specs.Thread.{with-live}
+use Rattle.thread.specs.declared.Thread.{Thread}
+use Rattle.thread.specs.declared.Effect.{Effect}
+use Rattle.event.specs.declared.Event.{Event}
+use Rattle.event.specs.declared.Event.the-variants.{Tbegin, Tend, Tabort, Tabortwc, Tabortdc, Tsr, Tcheck, Treclaim, Trechkpt, Mtspr, Mfspr, Ld, Std, Addi, Disallowed, Interrupt, Host}
+use Rattle.power_common.specs.Common.{quiet, passes}
+use Rattle.power_special.specs.Special.{mfspr}
+use Rattle.power_plain.specs.Plain.{addi}
+use Rattle.power_effect.specs.Effects.{effect}
+
+-- what an event does to any thread over any memory
+abbrev pub Works : Type 0
+Works = Thread → List ℕ → Effect
+
+-- the thread with other general registers
+abbrev pub with-gprs : Thread → List ℕ → Thread
+with-gprs t g = with-live t (record { gpr = g; cr = t .live .cr })
+
+pub record Cases (P : Event → Works → Type 0) : Type 0 where
+  pub tbegin : (r : Bool) → P (Tbegin r) (effect (Tbegin r))
+  pub tend : (a : Bool) → P (Tend a) (effect (Tend a))
+  pub tabort : (ra : ℕ) → P (Tabort ra) (effect (Tabort ra))
+  pub tabortwc : (to ra rb : ℕ) → P (Tabortwc to ra rb) (effect (Tabortwc to ra rb))
+  pub tabortdc : (to ra rb : ℕ) → P (Tabortdc to ra rb) (effect (Tabortdc to ra rb))
+  pub tsr : (l : Bool) → P (Tsr l) (effect (Tsr l))
+  pub tcheck : (bf : ℕ) → P (Tcheck bf) (effect (Tcheck bf))
+  pub treclaim : (ra : ℕ) → P (Treclaim ra) (effect (Treclaim ra))
+  pub trechkpt : P Trechkpt (effect Trechkpt)
+  pub mtspr : (spr ra : ℕ) → P (Mtspr spr ra) (effect (Mtspr spr ra))
+  pub ld : (rt i : ℕ) → P (Ld rt i) (effect (Ld rt i))
+  pub std : (ra i : ℕ) → P (Std ra i) (effect (Std ra i))
+  pub disallowed : P Disallowed (effect Disallowed)
+  pub interrupt : P Interrupt (effect Interrupt)
+  pub host : (pr tm : Bool) → P (Host pr tm) (effect (Host pr tm))
+  -- any that only sets general registers and goes on
+  pub registers : (e : Event) (g : Thread → List ℕ) → ((t : Thread) → length (g t) ≡ length (t .live .gpr)) → P e (λ t mem. quiet (passes (with-gprs t (g t))))
+
+pub effect-by : (P : Event → Works → Type 0) → Cases P → (e : Event) → P e (effect e)
+unfolding effect mfspr addi
+effect-by P c (Tbegin r) = c .tbegin r
+effect-by P c (Tend a) = c .tend a
+effect-by P c (Tabort ra) = c .tabort ra
+effect-by P c (Tabortwc to ra rb) = c .tabortwc to ra rb
+effect-by P c (Tabortdc to ra rb) = c .tabortdc to ra rb
+effect-by P c (Tsr l) = c .tsr l
+effect-by P c (Tcheck bf) = c .tcheck bf
+effect-by P c (Treclaim ra) = c .treclaim ra
+effect-by P c Trechkpt = c .trechkpt
+effect-by P c (Mtspr spr ra) = c .mtspr spr ra
+effect-by P c (Mfspr rt spr) = c .registers (Mfspr rt spr) (λ t. set (t .live .gpr) rt _) (λ t. simp length-set)
+effect-by P c (Ld rt i) = c .ld rt i
+effect-by P c (Std ra i) = c .std ra i
+effect-by P c (Addi rt ra si) = c .registers (Addi rt ra si) (λ t. set (t .live .gpr) rt _) (λ t. simp length-set)
+effect-by P c Disallowed = c .disallowed
+effect-by P c Interrupt = c .interrupt
+effect-by P c (Host pr tm) = c .host pr tm
