@@ -48,6 +48,9 @@ head-of r =
 abbrev pub with-control : Head → Control → Head
 with-control h k = record { control = k; cr0 = h .cr0; count = h .count; reads = h .reads; writes = h .writes }
 
+abbrev pub with-cr0 : Head → ℕ → Head
+with-cr0 h f = record { control = h .control; cr0 = f; count = h .count; reads = h .reads; writes = h .writes }
+
 abbrev pub with-count : Head → ℕ → Head
 with-count h n = record { control = h .control; cr0 = h .cr0; count = n; reads = h .reads; writes = h .writes }
 
