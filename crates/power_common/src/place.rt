@@ -34,7 +34,7 @@ pub fn told(h: Head) -> Head
     let m = k.msr;
     let s = m.state;
     let mut g = h;
-    g.cr0 = crate::ts_field(s) as u64;
+    g.cr0 = crate::ts_field(s);
     g
 }
 

@@ -2,10 +2,11 @@
 use mathlib.Core.Path.{_≡_, refl, sym, ap, _∙_, subst}
 use mathlib.Core.Bool.{Bool, true, false, cond}
 use mathlib.Core.List.{List, [], _∷_}
-use Prim.Native.Nat.{ℕ, zero, suc, _+_, _/_, _%_, _≤_, _<_}
+use Prim.Native.Nat.{ℕ, zero, suc, _+_, _/_, _%_, _^_, _≤_, _<_}
 use native.Mathlib.Omega.{arith}
 use lib.Dec.{eqb, leb}
 use lib.ListN.{length, getD, set, replicate, drop, length-set}
+use native.Mathlib.Nat.{mod-eq-of-lt}
 use native.Mathlib.Decide.{ℕ-discrete}
 use lib.Seq.{getD-set-same, getD-set-other, ext-getD}
 use borrow.Author.Tests.{lt-ltb, le-ltb, leb-true, leb-false}
@@ -45,9 +46,9 @@ words-of h =
     k .nia ∷ bit (k .msr .pr) ∷ bit (k .msr .tm) ∷ state-number (k .msr .state) ∷ bit (k .msr .doomed) ∷ k .failure .tfhar ∷ k .failure .tfiar ∷ k .failure .texasr ∷ h .cr0 ∷ h .count
     ∷ getD a 0 0 ∷ getD a 1 0 ∷ getD a 2 0 ∷ getD a 3 0 ∷ getD b 0 0 ∷ getD b 1 0 ∷ getD b 2 0 ∷ getD b 3 0 ∷ []
 
-pub head-back : (h : Head) → length (h .reads .words) ≡ 4 → length (h .writes .words) ≡ 4 → head-of (words-of h) ≡ h
+pub head-back : (h : Head) → h .cr0 < 2 ^ 8 → length (h .reads .words) ≡ 4 → length (h .writes .words) ≡ 4 → head-of (words-of h) ≡ h
 unfolding head-of
-head-back h a b =
+head-back h f a b =
     λ j. record {
       control =
           record {
@@ -61,7 +62,7 @@ head-back h a b =
                 };
             failure = h .control .failure;
           };
-      cr0 = h .cr0;
+      cr0 = mod-eq-of-lt f j;
       count = h .count;
       reads = record { words = four-words (h .reads .words) a j };
       writes = record { words = four-words (h .writes .words) b j };

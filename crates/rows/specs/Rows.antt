@@ -1,5 +1,5 @@
 -- A thread as rows of numbers: general registers, CR fields 1 to 7, the same of the checkpoint, a row of words, the log's indices and its values.
-use Prim.Native.Nat.{ℕ, zero, suc}
+use Prim.Native.Nat.{ℕ, zero, suc, _%_, _^_}
 use mathlib.Core.Bool.{Bool, true, false, cond}
 use mathlib.Core.List.{List, [], _∷_}
 use lib.Dec.{eqb, ltb}
@@ -28,7 +28,7 @@ state-number N = 0
 state-number T = 1
 state-number S = 2
 
--- what a row of words holds
+-- what a row of words holds; CR0 is its word's low byte
 unfoldable pub head-of : List ℕ → Head
 head-of r =
     record {
@@ -38,7 +38,7 @@ head-of r =
             msr = record { pr = flag (getD r 1 0); tm = flag (getD r 2 0); state = state-at (getD r 3 0); doomed = flag (getD r 4 0) };
             failure = record { tfhar = getD r 5 0; tfiar = getD r 6 0; texasr = getD r 7 0 };
           };
-      cr0 = getD r 8 0;
+      cr0 = getD r 8 0 % 2 ^ 8;
       count = getD r 9 0;
       reads = record { words = getD r 10 0 ∷ getD r 11 0 ∷ getD r 12 0 ∷ getD r 13 0 ∷ [] };
       writes = record { words = getD r 14 0 ∷ getD r 15 0 ∷ getD r 16 0 ∷ getD r 17 0 ∷ [] };

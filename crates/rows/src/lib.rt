@@ -20,7 +20,7 @@ use transaction::Touch;
 // What a row of words holds, by value.
 pub struct Head {
     pub control: Control,
-    pub cr0: u64,
+    pub cr0: u8,
     pub count: usize,
     pub reads: LineSet,
     pub writes: LineSet,
@@ -77,7 +77,7 @@ pub fn read_head(r: &[u64; HEAD]) -> Head
     };
     Head {
         control,
-        cr0: r[8],
+        cr0: (r[8] % 256) as u8,
         count: r[9] as usize,
         reads: LineSet {
             words: [r[10], r[11], r[12], r[13]],
@@ -119,7 +119,7 @@ pub fn write_head(r: &mut [u64; HEAD], h: Head)
         f.tfhar,
         f.tfiar,
         f.texasr,
-        h.cr0,
+        h.cr0 as u64,
         n,
         r0,
         r1,

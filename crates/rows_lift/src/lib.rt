@@ -1,11 +1,13 @@
 // A thread lifted out of its rows by value, and laid into them.
+pub mod machines;
+
 ghost use mathlib.Core.Path.{_≡_};
 ghost use mathlib.Core.Bool.{true};
-ghost use Prim.Native.Nat.{_<_, _≤_};
-ghost use lib.ListN.{length};
+ghost use mathlib.Core.List.{List};
+ghost use Prim.Native.Nat.{ℕ, _≤_};
 ghost use Rattle.base.specs.Limits.{most-places};
 ghost use Rattle.machine.specs.Valid.{unused-zero};
-ghost use Rattle.rows.specs.Rows.{head-of, log-of, standing};
+ghost use Rattle.rows.specs.Rows.{log-of, standing};
 use base::CR_FIELDS;
 use base::GPRS;
 use base::PLACES;
@@ -33,11 +35,15 @@ fn gathered(ix: &[u32; PLACES], vl: &[u64; PLACES], count: usize) -> [Entry; PLA
     log
 }
 
-fn narrow(f: u64) -> u8
-    requires { ⌜ f < 256 ⌝ }
-    ensures { λ r. ⌜ r ≡ f ⌝ }
+// The log's used places: its rows have no more than 64.
+fn used(count: usize) -> usize
+    ensures { λ n. ⌜ n ≤ most-places ⌝ }
+    ensures { λ n. ⌜ ((ix vl : List ℕ) → log-of ix vl n ≡ log-of ix vl count) ⌝ }
 {
-    f as u8
+    if PLACES < count {
+        return PLACES;
+    }
+    count
 }
 
 // The thread of its rows.
@@ -50,15 +56,13 @@ pub fn lifted(
     ix: &[u32; PLACES],
     vl: &[u64; PLACES],
 ) -> Thread
-    requires { ⌜ head-of (now words) .count ≤ most-places ⌝ }
-    requires { ⌜ head-of (now words) .cr0 < 256 ⌝ }
     ensures { λ t. ⌜ t ≡ standing (now (gpr .entry)) (now (cr .entry)) (now (kgpr .entry)) (now (kcr .entry)) (now (words .entry)) (now (ix .entry)) (now (vl .entry)) ⌝ }
 {
     let h = rows::read_head(words);
     let control = h.control;
     let reads = h.reads;
     let writes = h.writes;
-    let log = gathered(ix, vl, h.count);
+    let log = gathered(ix, vl, used(h.count));
     let transaction = Transaction {
         reads,
         writes,
@@ -71,10 +75,9 @@ pub fn lifted(
     let d = *kcr;
     let live = Registers { gpr: a, cr: b };
     let checkpoint = Registers { gpr: c, cr: d };
-    let cr0 = narrow(h.cr0);
     Thread {
         live,
-        cr0,
+        cr0: h.cr0,
         checkpoint,
         control,
         transaction,
@@ -129,7 +132,7 @@ pub fn laid(
         &mut *words,
         Head {
             control,
-            cr0: t.cr0 as u64,
+            cr0: t.cr0,
             count: x.count,
             reads,
             writes,

@@ -34,8 +34,8 @@ element-copy-out-t31 c = search needs
 element-copy-out-t5-2 : tie.Need-element-copy-out-t5-2
 element-copy-out-t5-2 c = search needs
 
-element-copy-out-t8-2 : tie.Need-element-copy-out-t8-2
-element-copy-out-t8-2 c = search needs
+cast-t35 : tie.Need-cast-t35
+cast-t35 c = search needs
 
 element-copy-out-t31-2 : tie.Need-element-copy-out-t31-2
 element-copy-out-t31-2 c = search needs
@@ -55,11 +55,14 @@ element-copy-out-t17 c = search needs
 element-copy-out-t20-2 : tie.Need-element-copy-out-t20-2
 element-copy-out-t20-2 c = search needs
 
-element-copy-out-t54 : tie.Need-element-copy-out-t54
-element-copy-out-t54 c = search needs
+element-copy-out-t53 : tie.Need-element-copy-out-t53
+element-copy-out-t53 c = search needs
 
-element-copy-out-t57 : tie.Need-element-copy-out-t57
-element-copy-out-t57 c = search needs
+element-copy-out-t56 : tie.Need-element-copy-out-t56
+element-copy-out-t56 c = search needs
+
+element-copy-out-t59 : tie.Need-element-copy-out-t59
+element-copy-out-t59 c = search needs
 
 returns : tie.Need-returns
 unfolding head-of
@@ -79,13 +82,14 @@ read-head-spec =
     element-copy-out-t28
     element-copy-out-t31
     element-copy-out-t5-2
-    element-copy-out-t8-2
+    cast-t35
     element-copy-out-t31-2
     element-copy-out-t28-2
     element-copy-out-t25-2
     element-copy-out-t12-2
     element-copy-out-t17
     element-copy-out-t20-2
-    element-copy-out-t54
-    element-copy-out-t57
+    element-copy-out-t53
+    element-copy-out-t56
+    element-copy-out-t59
     returns)

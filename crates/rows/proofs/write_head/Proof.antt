@@ -1,4 +1,5 @@
 -- `rows::write_head` meets its contract.
+use Prim.Native.Nat.{_<_, _^_}
 use borrow.Author.Needs.{needs}
 use lib.ListN.{length}
 use mathlib.Core.Path.{_≡_}
@@ -42,15 +43,22 @@ element-copy-out-w2 c = search needs
 element-copy-out-w3 : tie.Need-element-copy-out-w3
 element-copy-out-w3 c = search needs
 
+cast-t24 : tie.Need-cast-t24
+cast-t24 c = search needs
+
 -- the sets have their words by their type
 sized : (c : tie.Start) → (length (c .args .h .reads .words) ≡ 4) × (length (c .args .h .writes .words) ≡ 4)
 sized c = search needs
 
+-- CR0 is a byte
+small : (c : tie.Start) → c .args .h .cr0 < 2 ^ 8
+small c = search needs
+
 returns : tie.Need-returns
 returns c =
-    let s = c .before .before .before .before .before .before .before .before .before .before .before .before .before .before .before .before .before .before in
+    let s = c .before .before .before .before .before .before .before .before .before .before .before .before .before .before .before .before .before .before .before in
     let z = sized s in
-    rw (c .before .before .before .before .before .before .before .before .before .before .before .before .bit .ensures .0, c .before .before .before .before .before .before .before .before .before .before .before .bit2 .ensures .0, c .before .before .before .before .before .before .before .before .before .before .bit3 .ensures .0, c .before .before .before .before .before .before .before .before .before .state-number .ensures) (head-back (s .args .h) (z .0) (z .1))
+    rw (c .before .before .before .before .before .before .before .before .before .before .before .before .before .bit .ensures .0, c .before .before .before .before .before .before .before .before .before .before .before .before .bit2 .ensures .0, c .before .before .before .before .before .before .before .before .before .before .before .bit3 .ensures .0, c .before .before .before .before .before .before .before .before .before .before .state-number .ensures) (head-back (s .args .h) (small s) (z .0) (z .1))
 
 pub write-head-spec : {M : Type 1} → statement M
 write-head-spec =
@@ -68,4 +76,5 @@ write-head-spec =
     element-copy-out-w1
     element-copy-out-w2
     element-copy-out-w3
+    cast-t24
     returns)

@@ -8,15 +8,12 @@ use Rattle.rows_lift.proofs.laid.Tie as tie
 scattered-requires : tie.Need-scattered-requires
 scattered-requires c κs = search needs
 
-cast-t23 : tie.Need-cast-t23
-cast-t23 c = search needs
-
 write-head-requires : tie.Need-write-head-requires
 write-head-requires c κs = search needs
 
 returns : tie.Need-returns
 returns c =
-    let o = c .before .before .before .before .before .before in
+    let o = c .before .before .before .before .before in
     let t = o .before .before .before .before .before .before .before .before .before .before .args .t in
     (λ j. thread-with (c .write-head .ensures j) (t .live .gpr) (t .live .cr) (t .checkpoint .gpr) (t .checkpoint .cr) (o .scattered .last .0) (o .scattered .last .1 .0))
     ∙ (λ j. record {
@@ -28,4 +25,4 @@ returns c =
     })
 
 pub laid-spec : {M : Type 1} → statement M
-laid-spec = tie.close (tie.spec scattered-requires cast-t23 write-head-requires returns)
+laid-spec = tie.close (tie.spec scattered-requires write-head-requires returns)

@@ -1,7 +1,6 @@
 -- `rows_lift::lifted` meets its contract.
 use borrow.Author.Needs.{needs}
 use mathlib.Core.Path.{ap, _∙_}
-use native.Mathlib.Omega.{arith}
 use Rattle.rows.specs.Rows.{log-of}
 use Rattle.rows.specs.declared.Head.{Head}
 use Rattle.rows_lift.proofs.lifted.Statement.{statement}
@@ -10,33 +9,27 @@ use Rattle.rows_lift.proofs.lifted.Tie as tie
 read-head-requires : tie.Need-read-head-requires
 read-head-requires c κs = search needs
 
-gathered-requires : tie.Need-gathered-requires
-gathered-requires c κs =
-    let r = c .before .before .before in
-    let n = ap (λ (h : Head). h .count) (r .read-head .ensures) in
-    omega (arith, n, r .before .pre .0)
+used-requires : tie.Need-used-requires
+used-requires c κs = search needs
 
-narrow-requires : tie.Need-narrow-requires
-narrow-requires c κs =
-    let r = c .before .before .before .before .before .before .before .before in
-    let n = ap (λ (h : Head). h .cr0) (r .read-head .ensures) in
-    omega (arith, n, r .before .pre .1)
+gathered-requires : tie.Need-gathered-requires
+gathered-requires c κs = c .used .ensures .0
 
 returns : tie.Need-returns
 returns c =
-    let g = c .before .before .before .before .before in
-    let r = g .before .before .before .before in
+    let g = c .before .before .before .before in
+    let u = g .before in
+    let r = u .before .before .before .before in
     let a = r .before .args in
     let e = r .read-head .ensures in
-    let l = g .gathered .ensures ∙ ap (λ (h : Head). log-of (a .ix .now) (a .vl .now) (h .count)) e in
-    let f = c .narrow .ensures ∙ ap (λ (h : Head). h .cr0) e in
+    let l = g .gathered .ensures ∙ u .used .ensures .1 (a .ix .now) (a .vl .now) ∙ ap (λ (h : Head). log-of (a .ix .now) (a .vl .now) (h .count)) e in
     λ j. record {
       live = record { gpr = a .gpr .now; cr = a .cr .now };
-      cr0 = f j;
+      cr0 = e j .cr0;
       checkpoint = record { gpr = a .kgpr .now; cr = a .kcr .now };
       control = e j .control;
       transaction = record { reads = e j .reads; writes = e j .writes; count = e j .count; log = l j };
     }
 
 pub lifted-spec : {M : Type 1} → statement M
-lifted-spec = tie.close (tie.spec read-head-requires gathered-requires narrow-requires returns)
+lifted-spec = tie.close (tie.spec read-head-requires used-requires gathered-requires returns)

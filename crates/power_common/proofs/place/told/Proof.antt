@@ -6,11 +6,8 @@ use Rattle.power_common.proofs.place.told.Tie as tie
 ts-field-requires : tie.Need-ts-field-requires
 ts-field-requires c κs = search needs
 
-cast-g : tie.Need-cast-g
-cast-g c = search needs
-
 returns : tie.Need-returns
 returns c = simp (c .ts-field .ensures .0)
 
 pub told-spec : {M : Type 1} → statement M
-told-spec = tie.close (tie.spec ts-field-requires cast-g returns)
+told-spec = tie.close (tie.spec ts-field-requires returns)
