@@ -1,6 +1,6 @@
 -- Laws of conflicts: one turn of the strike, which goes up through the threads; a thread that is not met; the accessor's own thread.
 use mathlib.Core.Path.{_≡_, refl, sym, ap, _∙_}
-use mathlib.Core.Bool.{Bool, true, false, cond, _&&_, _||_, and-false, or-false}
+use mathlib.Core.Bool.{Bool, true, false, cond, _&&_, and-false, or-false}
 use mathlib.Core.List.{List}
 use Prim.Native.Nat.{ℕ, zero, suc, _+_, _≤_}
 use native.Mathlib.Decide.{ℕ-discrete}

@@ -1,12 +1,8 @@
 -- `conflict::felled` meets its contract.
 use Prim.Native.Nat.{ℕ}
-use borrow.Author.Needs.{needs}
-use mathlib.Core.Bool.{Bool, true, false, cond, _&&_}
-use mathlib.Core.List.{List}
-use mathlib.Core.Path.{_≡_, refl, sym, ap, _∙_}
+use Rattle.conflict.proofs.Laws.{hits-is, struck-is}
 use Rattle.conflict.specs.Conflict.{struck}
 use Rattle.conflict.specs.Inner.{touching, hit}
-use Rattle.conflict.proofs.Laws.{hits-is, struck-is}
 use Rattle.power_common.proofs.Laws.{recorded-is}
 use Rattle.power_common.specs.Inner as heads
 use Rattle.rows.specs.Rows.{head-of, thread-with, standing}
@@ -14,6 +10,10 @@ use Rattle.rows.specs.declared.Head.{Head}
 use Rattle.thread.specs.Thread.{is-live, felled}
 use Rattle.thread.specs.declared.State.{State}
 use Rattle.thread.specs.declared.Thread.{Thread}
+use borrow.Author.Needs.{needs}
+use mathlib.Core.Bool.{Bool, true, false, cond, _&&_}
+use mathlib.Core.List.{List}
+use mathlib.Core.Path.{_≡_, refl, sym, ap, _∙_}
 use Rattle.conflict.proofs.felled.Statement.{statement}
 use Rattle.conflict.proofs.felled.Tie as tie
 

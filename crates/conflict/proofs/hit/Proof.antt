@@ -1,10 +1,10 @@
 -- `conflict::hit` meets its contract.
-use borrow.Author.Needs.{needs}
-use mathlib.Core.Bool.{false}
-use mathlib.Core.Path.{_≡_, sym, _∙_}
 use Rattle.lines.specs.Lines as lineset
 use Rattle.rows.proofs.Laws.{writes-has, reads-has}
 use Rattle.rows.specs.Rows.{head-of}
+use borrow.Author.Needs.{needs}
+use mathlib.Core.Bool.{false}
+use mathlib.Core.Path.{_≡_, sym, _∙_}
 use Rattle.conflict.proofs.hit.Statement.{statement}
 use Rattle.conflict.proofs.hit.Tie as tie
 

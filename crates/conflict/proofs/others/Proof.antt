@@ -1,7 +1,6 @@
 -- `conflict::others` meets its contract.
 use Rattle.conflict.specs.Inner.{others-from}
 use borrow.Author.Needs.{needs}
-use mathlib.Core.Path.{sym, _∙_}
 use Rattle.conflict.proofs.others.Statement.{statement}
 use Rattle.conflict.proofs.others.Tie as tie
 

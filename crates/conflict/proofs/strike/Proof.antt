@@ -1,5 +1,11 @@
 -- `conflict::strike` meets its contract.
 use Prim.Native.Nat.{ℕ, _-_, _≤_}
+use Rattle.conflict.proofs.Laws.{strike-none, strike-step, strike-above}
+use Rattle.conflict.specs.Conflict as conflict
+use Rattle.conflict.specs.Inner.{touching}
+use Rattle.machine.specs.Machine as machine
+use Rattle.rows.specs.Rows.{rows, threads-of}
+use Rattle.thread.specs.declared.Thread.{Thread}
 use borrow.Author.Needs.{needs}
 use lib.Dec.{eqb}
 use lib.ListN.{set}
@@ -7,13 +13,6 @@ use mathlib.Core.Bool.{cond}
 use mathlib.Core.List.{List}
 use mathlib.Core.Path.{_≡_, sym, ap, _∙_}
 use native.Mathlib.Omega.{arith}
-use Rattle.conflict.proofs.Laws.{strike-none, strike-step}
-use Rattle.conflict.specs.Conflict as conflict
-use Rattle.conflict.specs.Inner.{touching}
-use Rattle.machine.specs.Machine as machine
-use Rattle.rows.specs.Rows.{rows, threads-of}
-use Rattle.conflict.proofs.Laws.{strike-above}
-use Rattle.thread.specs.declared.Thread.{Thread}
 use Rattle.conflict.proofs.strike.Statement.{statement}
 use Rattle.conflict.proofs.strike.Tie as tie
 

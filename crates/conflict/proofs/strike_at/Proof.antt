@@ -1,17 +1,17 @@
 -- `conflict::strike_at` meets its contract.
 use Prim.Native.Nat.{ℕ}
-use borrow.Author.Needs.{needs}
-use borrow.Author.Tests.{eq-eqb, ne-eqb}
-use lib.ListN.{getD, set}
-use mathlib.Core.Bool.{Bool, cond}
-use mathlib.Core.List.{List, []}
-use mathlib.Core.Path.{sym, ap, _∙_}
 use Rattle.conflict.specs.Conflict.{struck}
 use Rattle.conflict.specs.Inner.{touching}
 use Rattle.machine.specs.Machine as machine
 use Rattle.rows.proofs.Laws.{thread-is, kept, changed, threads-anew}
 use Rattle.rows.specs.Rows.{Row, Rows, rows, threads-of}
 use Rattle.thread.specs.declared.Thread.{Thread}
+use borrow.Author.Needs.{needs}
+use borrow.Author.Tests.{eq-eqb, ne-eqb}
+use lib.ListN.{getD, set}
+use mathlib.Core.Bool.{Bool, cond}
+use mathlib.Core.List.{List, []}
+use mathlib.Core.Path.{sym, ap, _∙_}
 use Rattle.conflict.proofs.strike_at.Statement.{statement}
 use Rattle.conflict.proofs.strike_at.Tie as tie
 

@@ -1,9 +1,9 @@
 -- `conflict::struck` meets its contract.
-use borrow.Author.Needs.{needs}
-use mathlib.Core.Path.{sym, _∙_}
+use Rattle.conflict.proofs.Laws.{hits-is, unstruck}
 use Rattle.conflict.specs.Inner.{touching}
 use Rattle.rows.specs.Rows.{head-of, standing}
-use Rattle.conflict.proofs.Laws.{hits-is, unstruck}
+use borrow.Author.Needs.{needs}
+use mathlib.Core.Path.{sym, _∙_}
 use Rattle.conflict.proofs.struck.Statement.{statement}
 use Rattle.conflict.proofs.struck.Tie as tie
 

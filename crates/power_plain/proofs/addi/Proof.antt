@@ -1,5 +1,5 @@
 -- `power_plain::addi` meets its contract.
-use Prim.Native.Nat.{ℕ, _+_, _%_, _^_}
+use Prim.Native.Nat.{_+_, _%_, _^_}
 use Rattle.base.specs.Answers as answer
 use Rattle.power_common.specs.Common.{did}
 use Rattle.power_common.specs.Inner.{row-or-0}
