@@ -6,9 +6,11 @@ ghost use lib.ListN.{length};
 ghost use Rattle.base.specs.Answers as answer;
 ghost use Rattle.base.specs.Limits.{lines, most-places, gprs};
 ghost use Rattle.transaction.specs.Transaction.{line, touches};
+ghost use Rattle.transaction.specs.declared.Cause.the-variants.{Footprint};
+ghost use Rattle.transaction.specs.declared.Transaction.{Transaction};
 ghost use Rattle.rows.specs.Rows.{head-of, held, standing};
 ghost use Rattle.rows.specs.Landed.{landed};
-ghost use Rattle.power_common.specs.Common.{did};
+ghost use Rattle.power_common.specs.Common.{did, quiet, fails};
 ghost use Rattle.power_access.specs.Access.{takes, ld, logs, meets-own, std};
 ghost use Rattle.power_access.specs.Inner.{joining};
 use base::CR_FIELDS;
@@ -55,6 +57,29 @@ fn takes(
     place::passes(&mut *words);
 }
 
+// No room: the thread's own failure, and no line is touched.
+fn overflowed(
+    gpr: &mut [u64; GPRS],
+    cr: &mut [u8; CR_FIELDS],
+    kgpr: &[u64; GPRS],
+    kcr: &[u8; CR_FIELDS],
+    words: &mut [u64; HEAD],
+) -> Went
+    ensures { λ r. ⌜ ((ix vl mem : List ℕ) (x : Transaction) → record { answer = r .answer; thread = standing (now (gpr .exit)) (now (cr .exit)) (now (kgpr .entry)) (now (kcr .entry)) (now (words .exit)) ix vl; touch = r .touch; memory = mem } ≡ landed (quiet (fails (standing (now (gpr .entry)) (now (cr .entry)) (now (kgpr .entry)) (now (kcr .entry)) (now (words .entry)) ix vl) Footprint)) x mem) ⌝ }
+{
+    Went {
+        answer: place::fails(
+            &mut *gpr,
+            &mut *cr,
+            kgpr,
+            kcr,
+            &mut *words,
+            Cause::Footprint,
+        ),
+        touch: Touch::Untouched,
+    }
+}
+
 // ld (RT, index): the overflow, which only a load that joins has, is found before anything is done.
 pub fn ld(
     gpr: &mut [u64; GPRS],
@@ -77,17 +102,7 @@ pub fn ld(
     let line = index as usize / LINE;
     if joining(&*words) {
         if rows_hold::crowded(&*words, line) {
-            return Went {
-                answer: place::fails(
-                    &mut *gpr,
-                    &mut *cr,
-                    kgpr,
-                    kcr,
-                    &mut *words,
-                    Cause::Footprint,
-                ),
-                touch: Touch::Untouched,
-            };
+            return overflowed(&mut *gpr, &mut *cr, kgpr, kcr, &mut *words);
         }
         rows::join_reads(&mut *words, line);
         takes(&mut *gpr, &mut *words, ix, vl, mem, rt, index);
@@ -121,32 +136,12 @@ fn logs(
 {
     let line = index as usize / LINE;
     if rows_hold::crowded(&*words, line) {
-        return Went {
-            answer: place::fails(
-                &mut *gpr,
-                &mut *cr,
-                kgpr,
-                kcr,
-                &mut *words,
-                Cause::Footprint,
-            ),
-            touch: Touch::Untouched,
-        };
+        return overflowed(&mut *gpr, &mut *cr, kgpr, kcr, &mut *words);
     }
     let count = words[9] as usize;
     let at = rows_hold::lookup(&*ix, count, index);
     if rows_hold::full(at, count) {
-        return Went {
-            answer: place::fails(
-                &mut *gpr,
-                &mut *cr,
-                kgpr,
-                kcr,
-                &mut *words,
-                Cause::Footprint,
-            ),
-            touch: Touch::Untouched,
-        };
+        return overflowed(&mut *gpr, &mut *cr, kgpr, kcr, &mut *words);
     }
     rows_hold::logged(&mut *words, &mut *ix, &mut *vl, at, index, value);
     place::passes(&mut *words);

@@ -43,15 +43,15 @@ joining-requires c κs = search needs
 crowded-requires : tie.Need-crowded-requires
 crowded-requires c κs = search needs
 
-fails-requires : tie.Need-fails-requires
-fails-requires c κs = search needs
+overflowed-requires : tie.Need-overflowed-requires
+overflowed-requires c κs = search needs
 
 returns : tie.Need-returns
 unfolding written
 returns c =
     let e = c .before .before .before .before in
     let s = e .before .before .before .before .before .before .before in
-    ap (λ (d : Did). left s (quiet d)) (c .fails .ensures (s .args .ix .now) (s .args .vl .now)) ∙ sym (ap (left s) (joined (e .before) true (e .if2 .taken)))
+    c .overflowed .ensures (s .args .ix .now) (s .args .vl .now) (s .args .mem .now) (thread s .transaction) ∙ sym (ap (left s) (joined (e .before) true (e .if2 .taken)))
 
 join-reads-requires : tie.Need-join-reads-requires
 join-reads-requires c κs = search needs
@@ -92,7 +92,7 @@ ld-spec =
     (tie.spec
     joining-requires
     crowded-requires
-    fails-requires
+    overflowed-requires
     returns
     join-reads-requires
     takes-requires

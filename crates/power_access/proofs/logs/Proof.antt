@@ -3,7 +3,7 @@ use Prim.Native.Nat.{ℕ}
 use Rattle.base.specs.Answers as answer
 use Rattle.power_access.proofs.Laws.{logs-is, logs-crowded}
 use Rattle.power_access.specs.Access.{stores}
-use Rattle.power_common.specs.Common.{did, quiet, passes}
+use Rattle.power_common.specs.Common.{did, passes}
 use Rattle.power_common.specs.declared.Did.{Did}
 use Rattle.rows.specs.Landed.{Landed, landed}
 use Rattle.rows.specs.Rows.{head-of, thread-with, standing, held}
@@ -45,8 +45,8 @@ roomy c b p = let s = c .before .before .before .before .before .before .before 
 crowded-requires : tie.Need-crowded-requires
 crowded-requires c κs = search needs
 
-fails-requires : tie.Need-fails-requires
-fails-requires c κs = search needs
+overflowed-requires : tie.Need-overflowed-requires
+overflowed-requires c κs = search needs
 
 returns : tie.Need-returns
 unfolding written
@@ -55,7 +55,7 @@ returns c =
     let s = e .before .before .before in
     let p = sym (e .before .crowded .ensures (s .args .ix .now) (s .args .vl .now)) ∙ e .if1 .taken in
     λ mem.
-    ap (λ (d : Did). left s mem (quiet d)) (c .fails .ensures (s .args .ix .now) (s .args .vl .now)) ∙ sym (ap (left s mem) (logs-crowded (thread s) (s .args .value) (s .args .index) p))
+    c .overflowed .ensures (s .args .ix .now) (s .args .vl .now) mem (thread s .transaction) ∙ sym (ap (left s mem) (logs-crowded (thread s) (s .args .value) (s .args .index) p))
 
 element-copy-out-count : tie.Need-element-copy-out-count
 element-copy-out-count c = search needs
@@ -67,8 +67,8 @@ lookup-requires c κs = c .before .before .before .before .before .pre .0
 full-requires : tie.Need-full-requires
 full-requires c κs = search needs
 
-fails-requires-2 : tie.Need-fails-requires-2
-fails-requires-2 c κs = search needs
+overflowed-requires-2 : tie.Need-overflowed-requires-2
+overflowed-requires-2 c κs = search needs
 
 returns-2 : tie.Need-returns-2
 unfolding written
@@ -79,7 +79,7 @@ returns-2 c =
     let n = l .before .before .before in
     let s = n .before .before .before in
     λ mem.
-    ap (λ (d : Did). left s mem (quiet d)) (c .fails2 .ensures (s .args .ix .now) (s .args .vl .now))
+    c .overflowed2 .ensures (s .args .ix .now) (s .args .vl .now) mem (thread s .transaction)
     ∙ sym (ap (left s mem) (logs-is (thread s) (s .args .value) (s .args .index) false true (uncrowded n) (ap (full (thread s .transaction)) (sym (found l)) ∙ roomy f true (e .if2 .taken))))
 
 logged-requires : tie.Need-logged-requires
@@ -115,12 +115,12 @@ logs-spec =
     tie.close
     (tie.spec
     crowded-requires
-    fails-requires
+    overflowed-requires
     returns
     element-copy-out-count
     lookup-requires
     full-requires
-    fails-requires-2
+    overflowed-requires-2
     returns-2
     logged-requires
     passes-requires
