@@ -67,7 +67,9 @@ pub fn treclaim(t: Thread, ra: u8) -> Did
     let k = t.control;
     let m = k.msr;
     let s = m.state;
-    let u = power_common::own_recording(t, power_common::abort_cause(t, ra));
+    let live = t.live;
+    let cause = place::abort_cause(&live.gpr, ra);
+    let u = power_common::own_recording(t, cause);
     let mut v = reclaims(u);
     v.cr0 = power_common::ts_field(s);
     power_common::passes(v)

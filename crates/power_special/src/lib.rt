@@ -41,7 +41,8 @@ pub fn mtspr(t: Thread, spr: u8, ra: u8) -> Did
     ensures { λ d. ⌜ d ≡ mtspr t spr ra ⌝ }
 {
     let mut k = t.control;
-    let f = put_spr(k.failure, spr, power_common::gpr(t, ra));
+    let live = t.live;
+    let f = put_spr(k.failure, spr, live.gpr[ra as usize]);
     k.failure = f;
     let mut u = t;
     u.control = k;
