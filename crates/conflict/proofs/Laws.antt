@@ -1,16 +1,42 @@
--- Laws of conflicts: one turn of the strike, which goes up through the threads.
-use mathlib.Core.Path.{_≡_, refl, ap}
-use mathlib.Core.Bool.{cond}
+-- Laws of conflicts: one turn of the strike, which goes up through the threads; a thread that is not met; the accessor's own thread.
+use mathlib.Core.Path.{_≡_, refl, sym, ap, _∙_}
+use mathlib.Core.Bool.{Bool, true, false, cond, _&&_, and-false, or-false}
 use mathlib.Core.List.{List}
-use Prim.Native.Nat.{ℕ, _+_}
+use Prim.Native.Nat.{ℕ, zero, suc, _+_, _≤_}
+use native.Mathlib.Decide.{ℕ-discrete}
 use native.Mathlib.Numerals.{add-one}
+use native.Mathlib.Omega.{arith}
+use borrow.Author.Tests.{eq-eqb, ne-eqb}
 use lib.Dec.{eqb}
 use lib.ListN.{set}
+use lib.Seq.{getD-set-other, set-comm}
+use Rattle.base.specs.Limits.{most-threads}
+use Rattle.lines.specs.Lines as lineset
 use Rattle.transaction.specs.declared.Cause.{Cause}
 use Rattle.transaction.specs.declared.Touch.{Touch}
+use Rattle.transaction.specs.declared.Touch.the-variants.{Untouched, Load, Store}
+use Rattle.thread.specs.Thread.{is-live, felled}
+use Rattle.thread.specs.declared.State.{State}
 use Rattle.thread.specs.declared.Thread.{Thread}
-use Rattle.machine.specs.Machine.{thread}
-use Rattle.conflict.specs.Conflict.{struck, strike}
+use Rattle.machine.specs.Machine.{thread, no-thread}
+use Rattle.rows.specs.Rows.{held}
+use Rattle.rows.specs.declared.Head.{Head}
+use Rattle.conflict.specs.Conflict.{hits, conflict-cause, struck, strike, others}
+use Rattle.conflict.specs.Inner.{touching, hit, others-from}
+
+-- what the scan finds at a head
+pub hits-is : (h : Head) (ix vl : List ℕ) (stores : Bool) (l : ℕ) → hits (held h ix vl) (touching stores l) ≡ hit h stores l
+unfolding hits
+hits-is h ix vl true l = refl
+hits-is h ix vl false l = sym (or-false (lineset.has (h .writes) l))
+
+module _ (t : Thread) (touch : Touch) (cause : Cause) (s : State) where
+  pub struck-is : (b : Bool) → hits (t .transaction) touch ≡ b → struck s t touch cause ≡ cond (is-live s (t .control .msr .doomed) && b) (felled s t cause) t
+  unfolding struck
+  struck-is b q = ap (λ (x : Bool). cond (is-live s (t .control .msr .doomed) && x) (felled s t cause) t) q
+
+  pub unstruck : hits (t .transaction) touch ≡ false → struck s t touch cause ≡ t
+  unstruck q = struck-is false q ∙ ap (λ (b : Bool). cond b (felled s t cause) t) (and-false (is-live s (t .control .msr .doomed)))
 
 module _ (ts : List Thread) (w : ℕ) (touch : Touch) (cause : Cause) where
   pub strike-none : ts ≡ strike ts w touch cause 0
@@ -22,3 +48,37 @@ module _ (ts : List Thread) (w : ℕ) (touch : Touch) (cause : Cause) where
       ≡ cond (eqb n w) (strike ts w touch cause n) (set (strike ts w touch cause n) n (struck (thread ts n .control .msr .state) (thread ts n) touch cause))
   unfolding strike
   strike-step n = ap (strike ts w touch cause) (add-one n)
+
+  -- threads that the strike has not reached
+  pub strike-above : (n k : ℕ) → n ≤ k → thread (strike ts w touch cause n) k ≡ thread ts k
+  unfolding strike
+  strike-above zero k h = refl
+  strike-above (suc n) k h = go (eqb n w) (strike-above n k (omega arith))
+    where
+      go : (b : Bool) → thread (strike ts w touch cause n) k ≡ thread ts k
+          → thread (cond b (strike ts w touch cause n) (set (strike ts w touch cause n) n (struck (thread ts n .control .msr .state) (thread ts n) touch cause))) k ≡ thread ts k
+      go true e = e
+      go false e = getD-set-other (strike ts w touch cause n) n k _ no-thread (λ q. omega arith) ∙ e
+
+  -- the strike leaves the accessor alone, so it may be anew before it or behind it
+  pub strike-set : (x : Thread) (n : ℕ) → strike (set ts w x) w touch cause n ≡ set (strike ts w touch cause n) w x
+  unfolding strike
+  strike-set x zero = refl
+  strike-set x (suc n) = go (ℕ-discrete n w) (strike-set x n)
+    where
+      go : Dec (n ≡ w) → strike (set ts w x) w touch cause n ≡ set (strike ts w touch cause n) w x
+          → cond (eqb n w) (strike (set ts w x) w touch cause n) (set (strike (set ts w x) w touch cause n) n (struck (thread (set ts w x) n .control .msr .state) (thread (set ts w x) n) touch cause))
+          ≡ set (cond (eqb n w) (strike ts w touch cause n) (set (strike ts w touch cause n) n (struck (thread ts n .control .msr .state) (thread ts n) touch cause))) w x
+      go (yes q) h = simp (eq-eqb n w q) h
+      go (no o) h =
+          simp (ne-eqb n w o)
+          ((λ j. set (h j) n (let t = getD-set-other ts w n x no-thread o j in struck (t .control .msr .state) t touch cause))
+          ∙ set-comm (strike ts w touch cause n) w n x (struck (thread ts n .control .msr .state) (thread ts n) touch cause) (λ q. o (sym q)))
+
+-- so what a touch leaves of the others is the same when its own thread is done first
+pub others-set : (touch : Touch) (ts : List Thread) (w : ℕ) (x : Thread)
+    → others-from (thread ts w .control .msr .state) touch (set ts w x) w ≡ set (others touch ts w) w x
+unfolding others others-from
+others-set Untouched ts w x = refl
+others-set (Load l) ts w x = strike-set ts w (Load l) (conflict-cause (thread ts w .control .msr .state)) x most-threads
+others-set (Store l) ts w x = strike-set ts w (Store l) (conflict-cause (thread ts w .control .msr .state)) x most-threads

@@ -1,1 +1,2 @@
 pub mod Conflict
+pub mod Inner

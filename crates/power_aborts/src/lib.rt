@@ -1,71 +1,115 @@
-// tabort., tabortwc. and tabortdc.
+// tabort., tabortwc. and tabortdc., each on its thread's rows.
 pub mod compare;
 
 ghost use mathlib.Core.Path.{_≡_};
-ghost use Prim.Native.Nat.{_<_};
+ghost use mathlib.Core.List.{List};
+ghost use Prim.Native.Nat.{ℕ, _<_};
 ghost use Rattle.base.specs.Limits.{gprs};
-ghost use Rattle.power_common.specs.Common.{abort-cause};
+ghost use Rattle.rows.specs.Rows.{head-of, standing};
+ghost use Rattle.power_common.specs.Common.{did, abort-cause};
 ghost use Rattle.power_aborts.specs.Aborts.{tabort, tabort-if, tabortwc, tabortdc};
-use power_common::Did;
+use base::CR_FIELDS;
+use base::GPRS;
+use base::answer;
+use power_common::place;
+use rows::HEAD;
 use thread::State;
-use thread::Thread;
 use transaction::Cause;
 
 // A cause recorded in T and S.
-fn abort(t: Thread, cause: Cause) -> Did
-    ensures { λ d. ⌜ d ≡ tabort (t .control .msr .state) t cause ⌝ }
+fn abort(
+    gpr: &mut [u64; GPRS],
+    cr: &mut [u8; CR_FIELDS],
+    kgpr: &[u64; GPRS],
+    kcr: &[u8; CR_FIELDS],
+    words: &mut [u64; HEAD],
+    cause: Cause,
+) -> u8
+    ensures { λ a. ⌜ ((ix vl : List ℕ) → did a (standing (now (gpr .exit)) (now (cr .exit)) (now (kgpr .entry)) (now (kcr .entry)) (now (words .exit)) ix vl) ≡ tabort (head-of (now (words .entry)) .control .msr .state) (standing (now (gpr .entry)) (now (cr .entry)) (now (kgpr .entry)) (now (kcr .entry)) (now (words .entry)) ix vl) cause) ⌝ }
 {
-    let k = t.control;
+    let h = rows::read_head(&*words);
+    let k = h.control;
     let m = k.msr;
     let s = m.state;
     match s {
-        State::N => power_common::cr0_only(t),
-        State::T => power_common::fails(t, cause),
-        State::S => {
-            let u = power_common::cr0_from_state(t);
-            power_common::dooms(u, cause)
+        State::N => {
+            rows::write_head(&mut *words, place::shown(h));
+            answer::DONE
         }
+        State::T => place::fails(&mut *gpr, &mut *cr, kgpr, kcr, &mut *words, cause),
+        State::S => place::dooms(&mut *words, place::told(h), cause),
     }
 }
 
 // tabort. (RA)
-pub fn tabort(t: Thread, ra: u8) -> Did
+pub fn tabort(
+    gpr: &mut [u64; GPRS],
+    cr: &mut [u8; CR_FIELDS],
+    kgpr: &[u64; GPRS],
+    kcr: &[u8; CR_FIELDS],
+    words: &mut [u64; HEAD],
+    ra: u8,
+) -> u8
     requires { ⌜ ra < gprs ⌝ }
-    ensures { λ d. ⌜ d ≡ tabort (t .control .msr .state) t (abort-cause t ra) ⌝ }
+    ensures { λ a. ⌜ ((ix vl : List ℕ) → let t = standing (now (gpr .entry)) (now (cr .entry)) (now (kgpr .entry)) (now (kcr .entry)) (now (words .entry)) ix vl in did a (standing (now (gpr .exit)) (now (cr .exit)) (now (kgpr .entry)) (now (kcr .entry)) (now (words .exit)) ix vl) ≡ tabort (t .control .msr .state) t (abort-cause t ra)) ⌝ }
 {
-    abort(t, power_common::abort_cause(t, ra))
+    let cause = place::abort_cause(&*gpr, ra);
+    abort(&mut *gpr, &mut *cr, kgpr, kcr, &mut *words, cause)
 }
 
 // A conditional abort, whose comparison holds or not.
-fn tabort_if(t: Thread, held: bool) -> Did
-    ensures { λ d. ⌜ d ≡ tabort-if t held ⌝ }
+fn tabort_if(
+    gpr: &mut [u64; GPRS],
+    cr: &mut [u8; CR_FIELDS],
+    kgpr: &[u64; GPRS],
+    kcr: &[u8; CR_FIELDS],
+    words: &mut [u64; HEAD],
+    held: bool,
+) -> u8
+    ensures { λ a. ⌜ ((ix vl : List ℕ) → did a (standing (now (gpr .exit)) (now (cr .exit)) (now (kgpr .entry)) (now (kcr .entry)) (now (words .exit)) ix vl) ≡ tabort-if (standing (now (gpr .entry)) (now (cr .entry)) (now (kgpr .entry)) (now (kcr .entry)) (now (words .entry)) ix vl) held) ⌝ }
 {
     if held {
-        return abort(t, Cause::Abort(0));
+        return abort(&mut *gpr, &mut *cr, kgpr, kcr, &mut *words, Cause::Abort(0));
     }
-    power_common::cr0_only(t)
+    let h = rows::read_head(&*words);
+    rows::write_head(&mut *words, place::shown(h));
+    answer::DONE
 }
 
 // tabortwc. (TO, RA, RB)
-pub fn tabortwc(t: Thread, to: u8, ra: u8, rb: u8) -> Did
+pub fn tabortwc(
+    gpr: &mut [u64; GPRS],
+    cr: &mut [u8; CR_FIELDS],
+    kgpr: &[u64; GPRS],
+    kcr: &[u8; CR_FIELDS],
+    words: &mut [u64; HEAD],
+    to: u8,
+    ra: u8,
+    rb: u8,
+) -> u8
     requires { ⌜ ra < gprs ⌝ }
     requires { ⌜ rb < gprs ⌝ }
-    ensures { λ d. ⌜ d ≡ tabortwc t to ra rb ⌝ }
+    ensures { λ a. ⌜ ((ix vl : List ℕ) → did a (standing (now (gpr .exit)) (now (cr .exit)) (now (kgpr .entry)) (now (kcr .entry)) (now (words .exit)) ix vl) ≡ tabortwc (standing (now (gpr .entry)) (now (cr .entry)) (now (kgpr .entry)) (now (kcr .entry)) (now (words .entry)) ix vl) to ra rb) ⌝ }
 {
-    tabort_if(
-        t,
-        compare::holds_in_words(to, power_common::gpr(t, ra), power_common::gpr(t, rb)),
-    )
+    let held = compare::holds_in_words(to, gpr[ra as usize], gpr[rb as usize]);
+    tabort_if(&mut *gpr, &mut *cr, kgpr, kcr, &mut *words, held)
 }
 
 // tabortdc. (TO, RA, RB)
-pub fn tabortdc(t: Thread, to: u8, ra: u8, rb: u8) -> Did
+pub fn tabortdc(
+    gpr: &mut [u64; GPRS],
+    cr: &mut [u8; CR_FIELDS],
+    kgpr: &[u64; GPRS],
+    kcr: &[u8; CR_FIELDS],
+    words: &mut [u64; HEAD],
+    to: u8,
+    ra: u8,
+    rb: u8,
+) -> u8
     requires { ⌜ ra < gprs ⌝ }
     requires { ⌜ rb < gprs ⌝ }
-    ensures { λ d. ⌜ d ≡ tabortdc t to ra rb ⌝ }
+    ensures { λ a. ⌜ ((ix vl : List ℕ) → did a (standing (now (gpr .exit)) (now (cr .exit)) (now (kgpr .entry)) (now (kcr .entry)) (now (words .exit)) ix vl) ≡ tabortdc (standing (now (gpr .entry)) (now (cr .entry)) (now (kgpr .entry)) (now (kcr .entry)) (now (words .entry)) ix vl) to ra rb) ⌝ }
 {
-    tabort_if(
-        t,
-        compare::holds_in_doublewords(to, power_common::gpr(t, ra), power_common::gpr(t, rb)),
-    )
+    let held = compare::holds_in_doublewords(to, gpr[ra as usize], gpr[rb as usize]);
+    tabort_if(&mut *gpr, &mut *cr, kgpr, kcr, &mut *words, held)
 }

@@ -1,170 +1,225 @@
-// ld and std (rules A1, A2 and A4).
+// ld and std (rules A1, A2 and A4), each on its thread's rows and on memory.
 ghost use mathlib.Core.Path.{_≡_};
-ghost use Prim.Native.Nat.{_<_, _≤_};
+ghost use mathlib.Core.List.{List};
+ghost use Prim.Native.Nat.{ℕ, _<_, _≤_};
 ghost use lib.ListN.{length};
+ghost use Rattle.base.specs.Answers as answer;
 ghost use Rattle.base.specs.Limits.{lines, most-places, gprs};
 ghost use Rattle.transaction.specs.Transaction.{line, touches};
-ghost use Rattle.power_access.specs.Access.{tracked, takes, joins, loads, ld, stores, logs, meets-own, std};
+ghost use Rattle.transaction.specs.declared.Cause.the-variants.{Footprint};
+ghost use Rattle.transaction.specs.declared.Transaction.{Transaction};
+ghost use Rattle.rows.specs.Rows.{head-of, held, standing};
+ghost use Rattle.rows.specs.Landed.{landed};
+ghost use Rattle.power_common.specs.Common.{did, quiet, fails};
+ghost use Rattle.power_access.specs.Access.{takes, ld, logs, meets-own, std};
+ghost use Rattle.power_access.specs.Inner.{joining};
+use base::CR_FIELDS;
+use base::GPRS;
 use base::LINE;
-use power_common::Did;
-use thread::Effect;
+use base::PLACES;
+use base::answer;
+use power_common::place;
+use rows::HEAD;
+use rows::Went;
 use thread::State;
-use thread::Thread;
 use transaction::Cause;
 use transaction::Touch;
-use transaction::Transaction;
-use transaction::Write;
 
-// Loads join the read set: ROT = 0.
-fn tracked(t: Thread) -> bool
-    ensures { λ r. ⌜ r ≡ tracked t ⌝ }
+// Loads join the read set.
+fn joining(words: &[u64; HEAD]) -> bool
+    ensures { λ b. ⌜ b ≡ joining (head-of (now (words .entry)) .control .msr .state) (head-of (now (words .entry)) .control) ⌝ }
 {
-    let k = t.control;
-    let f = k.failure;
-    thread::rot(f.texasr) == 0
+    let s = rows::state_at(words[3]);
+    match s {
+        State::N => false,
+        State::T => thread::rot(words[7]) == 0,
+        State::S => false,
+    }
 }
 
 // The register takes what the thread sees at a doubleword.
-fn takes(t: Thread, rt: u8, index: u32, mem: &[u64]) -> Did
-    requires { ⌜ t .transaction .count ≤ most-places ⌝ }
+fn takes(
+    gpr: &mut [u64; GPRS],
+    words: &mut [u64; HEAD],
+    ix: &[u32; PLACES],
+    vl: &[u64; PLACES],
+    mem: &[u64],
+    rt: u8,
+    index: u32,
+)
+    requires { ⌜ head-of (now words) .count ≤ most-places ⌝ }
     requires { ⌜ rt < gprs ⌝ }
     requires { ⌜ index < length (now mem) ⌝ }
-    ensures { λ d. ⌜ d ≡ takes t rt index (now (mem .entry)) ⌝ }
+    ensures { λ _. ⌜ ((cr kgpr kcr : List ℕ) → did answer.done (standing (now (gpr .exit)) cr kgpr kcr (now (words .exit)) (now (ix .entry)) (now (vl .entry))) ≡ takes (standing (now (gpr .entry)) cr kgpr kcr (now (words .entry)) (now (ix .entry)) (now (vl .entry))) rt index (now (mem .entry))) ⌝ }
 {
-    let x = t.transaction;
-    let v = transaction::load(x, index, mem);
-    let u = power_common::put_gpr(t, rt, v);
-    power_common::passes(u)
+    let count = words[9] as usize;
+    gpr[rt as usize] = rows_hold::load(ix, vl, count, index, mem);
+    place::passes(&mut *words);
 }
 
-// The line joins the read set.
-fn joins(t: Thread, index: u32) -> Thread
-    requires { ⌜ line index < lines ⌝ }
-    ensures { λ u. ⌜ u ≡ joins t index ⌝ }
+// No room: the thread's own failure, and no line is touched.
+fn overflowed(
+    gpr: &mut [u64; GPRS],
+    cr: &mut [u8; CR_FIELDS],
+    kgpr: &[u64; GPRS],
+    kcr: &[u8; CR_FIELDS],
+    words: &mut [u64; HEAD],
+) -> Went
+    ensures { λ r. ⌜ ((ix vl mem : List ℕ) (x : Transaction) → record { answer = r .answer; thread = standing (now (gpr .exit)) (now (cr .exit)) (now (kgpr .entry)) (now (kcr .entry)) (now (words .exit)) ix vl; touch = r .touch; memory = mem } ≡ landed (quiet (fails (standing (now (gpr .entry)) (now (cr .entry)) (now (kgpr .entry)) (now (kcr .entry)) (now (words .entry)) ix vl) Footprint)) x mem) ⌝ }
 {
-    let x = t.transaction;
-    let y = transaction::join(x, index);
-    let mut u = t;
-    u.transaction = y;
-    u
+    Went {
+        answer: place::fails(
+            &mut *gpr,
+            &mut *cr,
+            kgpr,
+            kcr,
+            &mut *words,
+            Cause::Footprint,
+        ),
+        touch: Touch::Untouched,
+    }
 }
 
-// A load's effect: its line is touched.
-fn loads(d: Did, index: u32) -> Effect
-    ensures { λ e. ⌜ e ≡ loads d index ⌝ }
-{
-    power_common::doing(d, Touch::Load(index as usize / LINE), Write::Unwritten)
-}
-
-// ld in T: the overflow is found before anything is done.
-fn ld_transactional(t: Thread, rt: u8, index: u32, mem: &[u64]) -> Effect
-    requires { ⌜ t .transaction .count ≤ most-places ⌝ }
+// ld (RT, index): the overflow, which only a load that joins has, is found before anything is done.
+pub fn ld(
+    gpr: &mut [u64; GPRS],
+    cr: &mut [u8; CR_FIELDS],
+    kgpr: &[u64; GPRS],
+    kcr: &[u8; CR_FIELDS],
+    words: &mut [u64; HEAD],
+    ix: &[u32; PLACES],
+    vl: &[u64; PLACES],
+    mem: &[u64],
+    rt: u8,
+    index: u32,
+) -> Went
+    requires { ⌜ head-of (now words) .count ≤ most-places ⌝ }
     requires { ⌜ rt < gprs ⌝ }
     requires { ⌜ line index < lines ⌝ }
     requires { ⌜ index < length (now mem) ⌝ }
-    ensures { λ e. ⌜ e ≡ ld State.T t rt index (now (mem .entry)) ⌝ }
+    ensures { λ r. ⌜ record { answer = r .answer; thread = standing (now (gpr .exit)) (now (cr .exit)) (now (kgpr .entry)) (now (kcr .entry)) (now (words .exit)) (now (ix .entry)) (now (vl .entry)); touch = r .touch; memory = now (mem .entry) } ≡ landed (ld (head-of (now (words .entry)) .control .msr .state) (standing (now (gpr .entry)) (now (cr .entry)) (now (kgpr .entry)) (now (kcr .entry)) (now (words .entry)) (now (ix .entry)) (now (vl .entry))) rt index (now (mem .entry))) (held (head-of (now (words .entry))) (now (ix .entry)) (now (vl .entry))) (now (mem .entry)) ⌝ }
 {
-    if tracked(t) {
-        let x = t.transaction;
-        if transaction::crowded(x, index as usize / LINE) {
-            return power_common::quiet(power_common::fails(t, Cause::Footprint));
+    let line = index as usize / LINE;
+    if joining(&*words) {
+        if rows_hold::crowded(&*words, line) {
+            return overflowed(&mut *gpr, &mut *cr, kgpr, kcr, &mut *words);
         }
-        let u = joins(t, index);
-        return loads(takes(u, rt, index, mem), index);
+        rows::join_reads(&mut *words, line);
+        takes(&mut *gpr, &mut *words, ix, vl, mem, rt, index);
+        return Went {
+            answer: answer::DONE,
+            touch: Touch::Load(line),
+        };
     }
-    loads(takes(t, rt, index, mem), index)
-}
-
-// ld (RT, index)
-pub fn ld(t: Thread, rt: u8, index: u32, mem: &[u64]) -> Effect
-    requires { ⌜ t .transaction .count ≤ most-places ⌝ }
-    requires { ⌜ rt < gprs ⌝ }
-    requires { ⌜ line index < lines ⌝ }
-    requires { ⌜ index < length (now mem) ⌝ }
-    ensures { λ e. ⌜ e ≡ ld (t .control .msr .state) t rt index (now (mem .entry)) ⌝ }
-{
-    let k = t.control;
-    let m = k.msr;
-    let s = m.state;
-    match s {
-        State::N => loads(takes(t, rt, index, mem), index),
-        State::T => ld_transactional(t, rt, index, mem),
-        State::S => loads(takes(t, rt, index, mem), index),
+    takes(&mut *gpr, &mut *words, ix, vl, mem, rt, index);
+    Went {
+        answer: answer::DONE,
+        touch: Touch::Load(line),
     }
-}
-
-// A store's effect: its line is touched.
-fn stores(d: Did, index: u32, write: Write) -> Effect
-    ensures { λ e. ⌜ e ≡ stores d index write ⌝ }
-{
-    power_common::doing(d, Touch::Store(index as usize / LINE), write)
 }
 
 // std in T: to the log, and no memory changes.
-fn std_transactional(t: Thread, value: u64, index: u32) -> Effect
-    requires { ⌜ t .transaction .count ≤ most-places ⌝ }
+fn logs(
+    gpr: &mut [u64; GPRS],
+    cr: &mut [u8; CR_FIELDS],
+    kgpr: &[u64; GPRS],
+    kcr: &[u8; CR_FIELDS],
+    words: &mut [u64; HEAD],
+    ix: &mut [u32; PLACES],
+    vl: &mut [u64; PLACES],
+    value: u64,
+    index: u32,
+) -> Went
+    requires { ⌜ head-of (now words) .count ≤ most-places ⌝ }
     requires { ⌜ line index < lines ⌝ }
-    ensures { λ e. ⌜ e ≡ logs t value index ⌝ }
+    ensures { λ r. ⌜ ((mem : List ℕ) → record { answer = r .answer; thread = standing (now (gpr .exit)) (now (cr .exit)) (now (kgpr .entry)) (now (kcr .entry)) (now (words .exit)) (now (ix .exit)) (now (vl .exit)); touch = r .touch; memory = mem } ≡ landed (logs (standing (now (gpr .entry)) (now (cr .entry)) (now (kgpr .entry)) (now (kcr .entry)) (now (words .entry)) (now (ix .entry)) (now (vl .entry))) value index) (held (head-of (now (words .entry))) (now (ix .entry)) (now (vl .entry))) mem) ⌝ }
 {
-    let x = t.transaction;
-    if transaction::crowded(x, index as usize / LINE) {
-        return power_common::quiet(power_common::fails(t, Cause::Footprint));
+    let line = index as usize / LINE;
+    if rows_hold::crowded(&*words, line) {
+        return overflowed(&mut *gpr, &mut *cr, kgpr, kcr, &mut *words);
     }
-    let at = transaction::lookup(x, index);
-    if transaction::full(x, at) {
-        return power_common::quiet(power_common::fails(t, Cause::Footprint));
+    let count = words[9] as usize;
+    let at = rows_hold::lookup(&*ix, count, index);
+    if rows_hold::full(at, count) {
+        return overflowed(&mut *gpr, &mut *cr, kgpr, kcr, &mut *words);
     }
-    let y = transaction::store_at(x, at, index, value);
-    let mut u = t;
-    u.transaction = y;
-    stores(power_common::passes(u), index, Write::Unwritten)
+    rows_hold::logged(&mut *words, &mut *ix, &mut *vl, at, index, value);
+    place::passes(&mut *words);
+    Went {
+        answer: answer::DONE,
+        touch: Touch::Store(line),
+    }
 }
 
 // The line is in one of the sets.
-fn touches(x: Transaction, line: usize) -> bool
+fn touches(words: &[u64; HEAD], line: usize) -> bool
     requires { ⌜ line < lines ⌝ }
-    ensures { λ r. ⌜ r ≡ touches x line ⌝ }
+    ensures { λ b. ⌜ ((ix vl : List ℕ) → b ≡ touches (held (head-of (now (words .entry))) ix vl) line) ⌝ }
 {
-    let r = x.reads;
-    if lines::has(r, line) {
+    if rows::has_line(words, 10, line) {
         return true;
     }
-    let w = x.writes;
-    lines::has(w, line)
+    rows::has_line(words, 14, line)
 }
 
 // std in S: a line of the thread's own sets fails its transaction.
-fn meets_own(t: Thread, index: u32) -> Did
+fn meets_own(words: &mut [u64; HEAD], index: u32) -> u8
     requires { ⌜ line index < lines ⌝ }
-    ensures { λ d. ⌜ d ≡ meets-own t index ⌝ }
+    ensures { λ a. ⌜ ((gpr cr kgpr kcr ix vl : List ℕ) → did a (standing gpr cr kgpr kcr (now (words .exit)) ix vl) ≡ meets-own (standing gpr cr kgpr kcr (now (words .entry)) ix vl) index) ⌝ }
 {
-    let x = t.transaction;
-    if touches(x, index as usize / LINE) {
-        return power_common::dooms(t, Cause::OwnStore);
+    if touches(&*words, index as usize / LINE) {
+        let h = rows::read_head(&*words);
+        return place::dooms(&mut *words, h, Cause::OwnStore);
     }
-    power_common::passes(t)
+    place::passes(&mut *words);
+    answer::DONE
 }
 
 // std (RA, index), with the value of RA
-pub fn std(t: Thread, value: u64, index: u32) -> Effect
-    requires { ⌜ t .transaction .count ≤ most-places ⌝ }
+pub fn std(
+    gpr: &mut [u64; GPRS],
+    cr: &mut [u8; CR_FIELDS],
+    kgpr: &[u64; GPRS],
+    kcr: &[u8; CR_FIELDS],
+    words: &mut [u64; HEAD],
+    ix: &mut [u32; PLACES],
+    vl: &mut [u64; PLACES],
+    mem: &mut [u64],
+    value: u64,
+    index: u32,
+) -> Went
+    requires { ⌜ head-of (now words) .count ≤ most-places ⌝ }
     requires { ⌜ line index < lines ⌝ }
-    ensures { λ e. ⌜ e ≡ std (t .control .msr .state) t value index ⌝ }
+    requires { ⌜ index < length (now mem) ⌝ }
+    ensures { λ r. ⌜ record { answer = r .answer; thread = standing (now (gpr .exit)) (now (cr .exit)) (now (kgpr .entry)) (now (kcr .entry)) (now (words .exit)) (now (ix .exit)) (now (vl .exit)); touch = r .touch; memory = now (mem .exit) } ≡ landed (std (head-of (now (words .entry)) .control .msr .state) (standing (now (gpr .entry)) (now (cr .entry)) (now (kgpr .entry)) (now (kcr .entry)) (now (words .entry)) (now (ix .entry)) (now (vl .entry))) value index) (held (head-of (now (words .entry))) (now (ix .entry)) (now (vl .entry))) (now (mem .entry)) ⌝ }
 {
-    let k = t.control;
-    let m = k.msr;
-    let s = m.state;
+    let s = rows::state_at(words[3]);
     match s {
-        State::N => stores(
-            power_common::passes(t),
+        State::N => {
+            mem[index as usize] = value;
+            place::passes(&mut *words);
+            Went {
+                answer: answer::DONE,
+                touch: Touch::Store(index as usize / LINE),
+            }
+        }
+        State::T => logs(
+            &mut *gpr,
+            &mut *cr,
+            kgpr,
+            kcr,
+            &mut *words,
+            &mut *ix,
+            &mut *vl,
+            value,
             index,
-            Write::Doubleword { index, value },
         ),
-        State::T => std_transactional(t, value, index),
-        State::S => stores(
-            meets_own(t, index),
-            index,
-            Write::Doubleword { index, value },
-        ),
+        State::S => {
+            mem[index as usize] = value;
+            Went {
+                answer: meets_own(&mut *words, index),
+                touch: Touch::Store(index as usize / LINE),
+            }
+        }
     }
 }

@@ -1,17 +1,29 @@
-// tbegin., tend. and tsr.
+// tbegin., tend. and tsr., each on its thread's rows.
 ghost use mathlib.Core.Path.{_≡_};
-ghost use Rattle.power_begins.specs.Begins.{begins, tbegin, commits, ended, tend, moves, tsuspend, tresume, tsr};
+ghost use mathlib.Core.List.{List};
+ghost use Prim.Native.Nat.{ℕ, _≤_};
+ghost use Rattle.base.specs.Answers as answer;
+ghost use Rattle.base.specs.Limits.{most-places};
+ghost use Rattle.transaction.specs.declared.Touch.the-variants.{Untouched};
+ghost use Rattle.rows.specs.Rows.{head-of, held, standing};
+ghost use Rattle.rows.specs.Landed.{landed};
+ghost use Rattle.power_common.specs.Common.{did};
+ghost use Rattle.power_begins.specs.Begins.{begins, tbegin, tend, tsuspend, tresume, tsr};
+ghost use Rattle.power_begins.specs.Inner.{opened, closes, closed, moved};
+use base::CR_FIELDS;
+use base::GPRS;
 use base::LEVELS;
+use base::PLACES;
 use base::answer;
-use power_common::Did;
+use power_common::place;
+use rows::HEAD;
+use rows::Head;
+use rows::Went;
 use thread::Control;
-use thread::Effect;
 use thread::Failure;
 use thread::State;
-use thread::Thread;
 use transaction::Cause;
 use transaction::Touch;
-use transaction::Write;
 
 // The control registers of a new transaction.
 fn begins(k: Control, r: bool) -> Control
@@ -29,142 +41,220 @@ fn begins(k: Control, r: bool) -> Control
     c
 }
 
-// tbegin. where no transaction is open.
-fn outer(t: Thread, r: bool) -> Did
-    ensures { λ d. ⌜ d ≡ tbegin State.N t r ⌝ }
+// The head of a new transaction.
+fn opened(h: Head, r: bool) -> Head
+    ensures { λ g. ⌜ g ≡ opened h r ⌝ }
 {
-    let k = begins(t.control, r);
-    let u = power_common::cr0_from_state(t);
-    let mut v = thread::take_checkpoint(u);
-    v.control = k;
-    power_common::passes(v)
+    let control = begins(h.control, r);
+    let mut g = place::told(h);
+    g.control = control;
+    place::advanced(g)
 }
 
 // tbegin. (R)
-pub fn tbegin(t: Thread, r: bool) -> Did
-    ensures { λ d. ⌜ d ≡ tbegin (t .control .msr .state) t r ⌝ }
+pub fn tbegin(
+    gpr: &mut [u64; GPRS],
+    cr: &mut [u8; CR_FIELDS],
+    kgpr: &mut [u64; GPRS],
+    kcr: &mut [u8; CR_FIELDS],
+    words: &mut [u64; HEAD],
+    r: bool,
+) -> u8
+    ensures { λ a. ⌜ ((ix vl : List ℕ) → did a (standing (now (gpr .exit)) (now (cr .exit)) (now (kgpr .exit)) (now (kcr .exit)) (now (words .exit)) ix vl) ≡ tbegin (head-of (now (words .entry)) .control .msr .state) (standing (now (gpr .entry)) (now (cr .entry)) (now (kgpr .entry)) (now (kcr .entry)) (now (words .entry)) ix vl) r) ⌝ }
 {
-    let k = t.control;
+    let h = rows::read_head(&*words);
+    let k = h.control;
     let m = k.msr;
     let s = m.state;
     match s {
-        State::N => outer(t, r),
+        State::N => {
+            *kgpr = *gpr;
+            *kcr = *cr;
+            rows::write_head(&mut *words, opened(h, r));
+            answer::DONE
+        }
         State::T => {
             let f = k.failure;
             if LEVELS <= thread::tl(f.texasr) {
-                return power_common::fails(t, Cause::Nesting);
+                return place::fails(
+                    &mut *gpr,
+                    &mut *cr,
+                    &*kgpr,
+                    &*kcr,
+                    &mut *words,
+                    Cause::Nesting,
+                );
             }
-            power_common::leveled(t, f.texasr + 1)
+            rows::write_head(&mut *words, place::leveled(h, f.texasr + 1));
+            answer::DONE
         }
-        State::S => power_common::cr0_only(t),
+        State::S => {
+            rows::write_head(&mut *words, place::shown(h));
+            answer::DONE
+        }
     }
 }
 
 // The transaction closes with this tend.
-fn commits(t: Thread, a: bool) -> bool
-    ensures { λ r. ⌜ r ≡ commits t a ⌝ }
+fn closes(k: Control, a: bool) -> bool
+    ensures { λ r. ⌜ r ≡ closes k a ⌝ }
 {
     if a {
         return true;
     }
-    let k = t.control;
     let f = k.failure;
     thread::tl(f.texasr) <= 1
 }
 
-// The thread when its transaction is done.
-fn ended(t: Thread) -> Did
-    ensures { λ d. ⌜ d ≡ ended t ⌝ }
+// The head when its transaction is done.
+fn closed(h: Head) -> Head
+    ensures { λ g. ⌜ g ≡ closed h ⌝ }
 {
-    let k = t.control;
+    let k = h.control;
     let m = k.msr;
     let mut f = k.failure;
     f.texasr = f.texasr - thread::tl(f.texasr);
-    let mut c = thread::in_state(k, State::N, m.doomed);
-    c.failure = f;
-    let held = t.transaction;
-    let none = transaction::discard(held);
-    let mut u = t;
-    u.control = c;
-    u.transaction = none;
-    u.cr0 = 0b0100;
-    power_common::passes(u)
+    let mut control = thread::in_state(k, State::N, m.doomed);
+    control.failure = f;
+    let none = lines::empty();
+    place::advanced(Head {
+        control,
+        cr0: 0b0100,
+        count: 0,
+        reads: none,
+        writes: none,
+    })
+}
+
+// Done, and no line touched.
+fn done() -> Went
+    ensures { λ r. ⌜ r ≡ record { answer = answer.done; touch = Untouched } ⌝ }
+{
+    Went {
+        answer: answer::DONE,
+        touch: Touch::Untouched,
+    }
 }
 
 // tend. (A)
-pub fn tend(t: Thread, a: bool) -> Effect
-    ensures { λ e. ⌜ e ≡ tend (t .control .msr .state) t a ⌝ }
+pub fn tend(
+    words: &mut [u64; HEAD],
+    ix: &[u32; PLACES],
+    vl: &[u64; PLACES],
+    mem: &mut [u64],
+    a: bool,
+) -> Went
+    requires { ⌜ head-of (now words) .count ≤ most-places ⌝ }
+    ensures { λ r. ⌜ ((gpr cr kgpr kcr : List ℕ) → record { answer = r .answer; thread = standing gpr cr kgpr kcr (now (words .exit)) (now (ix .entry)) (now (vl .entry)); touch = r .touch; memory = now (mem .exit) } ≡ landed (tend (head-of (now (words .entry)) .control .msr .state) (standing gpr cr kgpr kcr (now (words .entry)) (now (ix .entry)) (now (vl .entry))) a) (held (head-of (now (words .entry))) (now (ix .entry)) (now (vl .entry))) (now (mem .entry))) ⌝ }
 {
-    let k = t.control;
+    let h = rows::read_head(&*words);
+    let k = h.control;
     let m = k.msr;
     let s = m.state;
     match s {
-        State::N => power_common::quiet(power_common::cr0_only(t)),
+        State::N => {
+            rows::write_head(&mut *words, place::shown(h));
+            done()
+        }
         State::T => {
-            if commits(t, a) {
-                return power_common::doing(ended(t), Touch::Untouched, Write::Log);
+            if closes(k, a) {
+                rows_hold::commit(ix, vl, h.count, &mut *mem);
+                rows::write_head(&mut *words, closed(h));
+                return done();
             }
             let f = k.failure;
-            power_common::quiet(power_common::leveled(t, f.texasr - 1))
+            rows::write_head(&mut *words, place::leveled(h, f.texasr - 1));
+            done()
         }
-        State::S => power_common::quiet(power_common::cr0_only(t)),
+        State::S => {
+            rows::write_head(&mut *words, place::shown(h));
+            done()
+        }
     }
 }
 
 // CR0 from state, and on in another state.
-fn moves(t: Thread, s: State) -> Did
-    ensures { λ d. ⌜ d ≡ moves t s ⌝ }
+fn moved(h: Head, s: State) -> Head
+    ensures { λ g. ⌜ g ≡ moved h s ⌝ }
 {
-    let k = t.control;
+    let k = h.control;
     let m = k.msr;
-    let c = thread::in_state(k, s, m.doomed);
-    let mut u = power_common::cr0_from_state(t);
-    u.control = c;
-    power_common::passes(u)
+    let control = thread::in_state(k, s, m.doomed);
+    let mut g = place::told(h);
+    g.control = control;
+    place::advanced(g)
 }
 
-fn tsuspend(t: Thread) -> Did
-    ensures { λ d. ⌜ d ≡ tsuspend (t .control .msr .state) t ⌝ }
+fn tsuspend(words: &mut [u64; HEAD]) -> u8
+    ensures { λ a. ⌜ ((gpr cr kgpr kcr ix vl : List ℕ) → did a (standing gpr cr kgpr kcr (now (words .exit)) ix vl) ≡ tsuspend (head-of (now (words .entry)) .control .msr .state) (standing gpr cr kgpr kcr (now (words .entry)) ix vl)) ⌝ }
 {
-    let k = t.control;
+    let h = rows::read_head(&*words);
+    let k = h.control;
     let m = k.msr;
     let s = m.state;
     match s {
-        State::N => power_common::cr0_only(t),
-        State::T => moves(t, State::S),
-        State::S => power_common::cr0_only(t),
+        State::N => {
+            rows::write_head(&mut *words, place::shown(h));
+            answer::DONE
+        }
+        State::T => {
+            rows::write_head(&mut *words, moved(h, State::S));
+            answer::DONE
+        }
+        State::S => {
+            rows::write_head(&mut *words, place::shown(h));
+            answer::DONE
+        }
     }
 }
 
 // A failure that was recorded in S is handled here.
-fn tresume(t: Thread) -> Did
-    ensures { λ d. ⌜ d ≡ tresume (t .control .msr .state) t ⌝ }
+fn tresume(
+    gpr: &mut [u64; GPRS],
+    cr: &mut [u8; CR_FIELDS],
+    kgpr: &[u64; GPRS],
+    kcr: &[u8; CR_FIELDS],
+    words: &mut [u64; HEAD],
+) -> u8
+    ensures { λ a. ⌜ ((ix vl : List ℕ) → did a (standing (now (gpr .exit)) (now (cr .exit)) (now (kgpr .entry)) (now (kcr .entry)) (now (words .exit)) ix vl) ≡ tresume (head-of (now (words .entry)) .control .msr .state) (standing (now (gpr .entry)) (now (cr .entry)) (now (kgpr .entry)) (now (kcr .entry)) (now (words .entry)) ix vl)) ⌝ }
 {
-    let k = t.control;
+    let h = rows::read_head(&*words);
+    let k = h.control;
     let m = k.msr;
     let s = m.state;
     match s {
-        State::N => power_common::cr0_only(t),
-        State::T => power_common::cr0_only(t),
+        State::N => {
+            rows::write_head(&mut *words, place::shown(h));
+            answer::DONE
+        }
+        State::T => {
+            rows::write_head(&mut *words, place::shown(h));
+            answer::DONE
+        }
         State::S => {
             if m.doomed {
-                let u = thread::handling(t);
-                return Did {
-                    answer: answer::HANDLED,
-                    thread: u,
-                };
+                place::restored(&mut *gpr, &mut *cr, kgpr, kcr, &mut *words, h);
+                return answer::HANDLED;
             }
-            moves(t, State::T)
+            rows::write_head(&mut *words, moved(h, State::T));
+            answer::DONE
         }
     }
 }
 
 // tsr. (L)
-pub fn tsr(t: Thread, l: bool) -> Did
-    ensures { λ d. ⌜ d ≡ tsr t l ⌝ }
+pub fn tsr(
+    gpr: &mut [u64; GPRS],
+    cr: &mut [u8; CR_FIELDS],
+    kgpr: &[u64; GPRS],
+    kcr: &[u8; CR_FIELDS],
+    words: &mut [u64; HEAD],
+    l: bool,
+) -> u8
+    ensures { λ a. ⌜ ((ix vl : List ℕ) → did a (standing (now (gpr .exit)) (now (cr .exit)) (now (kgpr .entry)) (now (kcr .entry)) (now (words .exit)) ix vl) ≡ tsr (standing (now (gpr .entry)) (now (cr .entry)) (now (kgpr .entry)) (now (kcr .entry)) (now (words .entry)) ix vl) l) ⌝ }
 {
     if l {
-        return tresume(t);
+        return tresume(&mut *gpr, &mut *cr, kgpr, kcr, &mut *words);
     }
-    tsuspend(t)
+    tsuspend(&mut *words)
 }

@@ -1,4 +1,6 @@
 // What the events share: the next address, CR0 from state, registers, the thread's own failure.
+pub mod place;
+
 ghost use mathlib.Core.Path.{_≡_};
 ghost use Prim.Native.Nat.{_<_};
 ghost use Rattle.base.specs.Limits.{gprs};

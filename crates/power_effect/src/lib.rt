@@ -1,41 +1,149 @@
-// What an event does, decided before anything changes (rules E1 to E17): it goes to the crate of its group.
-
+// An event done on its own thread's rows and on memory (rules E1 to E17): it goes to the crate of its group. Rare ones are done on the thread by value.
 ghost use mathlib.Core.Path.{_≡_};
-ghost use mathlib.Core.Bool.{true};
-ghost use Prim.Native.Nat.{_≤_, _*_};
+ghost use Prim.Native.Nat.{_≤_};
 ghost use lib.ListN.{length};
-ghost use Rattle.base.specs.Limits.{line-size, lines, most-places};
-ghost use Rattle.event.specs.Event.{operands-right};
+ghost use Rattle.base.specs.Limits.{most-places};
+ghost use Rattle.transaction.specs.declared.Touch.the-variants.{Untouched};
+ghost use Rattle.rows.specs.Rows.{head-of, held, standing};
+ghost use Rattle.rows.specs.Landed.{landed};
+ghost use Rattle.power_common.specs.Common.{did};
 ghost use Rattle.power_effect.specs.Effects.{effect};
+ghost use Rattle.power_effect.specs.Inner.{Ready, Registered, rare};
+use base::CR_FIELDS;
+use base::GPRS;
+use base::PLACES;
 use event::Event;
-use power_common::quiet;
-use thread::Effect;
+use power_aborts::tabort;
+use power_aborts::tabortdc;
+use power_aborts::tabortwc;
+use power_common::Did;
+use rows::HEAD;
+use rows::Went;
 use thread::Thread;
+use transaction::Touch;
 
-// The event's effect on a thread over a memory: nothing is changed yet.
-pub fn effect(e: Event, t: Thread, mem: &[u64]) -> Effect
-    requires { ⌜ operands-right e (length (now mem)) ≡ true ⌝ }
-    requires { ⌜ length (now mem) ≤ line-size * lines ⌝ }
-    requires { ⌜ t .transaction .count ≤ most-places ⌝ }
-    ensures { λ r. ⌜ r ≡ effect e t (now (mem .entry)) ⌝ }
+// The events that are done by value.
+pub enum Rare {
+    Mtspr { spr: u8, ra: u8 },
+    Treclaim { ra: u8 },
+    Trechkpt,
+}
+
+fn rarely(t: Thread, e: Rare) -> Did
+    requires { ⌜ Registered e ⌝ }
+    ensures { λ d. ⌜ d ≡ rare e t ⌝ }
 {
     match e {
-        Event::Tbegin { r } => quiet(power_begins::tbegin(t, r)),
-        Event::Tend { a } => power_begins::tend(t, a),
-        Event::Tabort { ra } => quiet(power_aborts::tabort(t, ra)),
-        Event::Tabortwc { to, ra, rb } => quiet(power_aborts::tabortwc(t, to, ra, rb)),
-        Event::Tabortdc { to, ra, rb } => quiet(power_aborts::tabortdc(t, to, ra, rb)),
-        Event::Tsr { l } => quiet(power_begins::tsr(t, l)),
-        Event::Tcheck { bf } => quiet(power_reclaims::tcheck(t, bf)),
-        Event::Treclaim { ra } => quiet(power_reclaims::treclaim(t, ra)),
-        Event::Trechkpt => quiet(power_reclaims::trechkpt(t)),
-        Event::Mtspr { spr, ra } => quiet(power_special::mtspr(t, spr, ra)),
-        Event::Mfspr { rt, spr } => quiet(power_special::mfspr(t, rt, spr)),
-        Event::Ld { rt, index } => power_access::ld(t, rt, index, mem),
-        Event::Std { ra, index } => power_access::std(t, power_common::gpr(t, ra), index),
-        Event::Addi { rt, ra, si } => quiet(power_plain::addi(t, rt, ra, si)),
-        Event::Disallowed => quiet(power_plain::disallowed(t)),
-        Event::Interrupt => quiet(power_plain::interrupt(t)),
-        Event::Host { pr, tm } => quiet(power_plain::host(t, pr, tm)),
+        Rare::Mtspr { spr, ra } => power_special::mtspr(t, spr, ra),
+        Rare::Treclaim { ra } => power_reclaims::treclaim(t, ra),
+        Rare::Trechkpt => power_reclaims::trechkpt(t),
+    }
+}
+
+// The thread is lifted out of its rows, and laid into them when the event is done.
+fn by_value(
+    gpr: &mut [u64; GPRS],
+    cr: &mut [u8; CR_FIELDS],
+    kgpr: &mut [u64; GPRS],
+    kcr: &mut [u8; CR_FIELDS],
+    words: &mut [u64; HEAD],
+    ix: &mut [u32; PLACES],
+    vl: &mut [u64; PLACES],
+    e: Rare,
+) -> u8
+    requires { ⌜ Registered e ⌝ }
+    requires { ⌜ head-of (now words) .count ≤ most-places ⌝ }
+    ensures { λ a. ⌜ did a (standing (now (gpr .exit)) (now (cr .exit)) (now (kgpr .exit)) (now (kcr .exit)) (now (words .exit)) (now (ix .exit)) (now (vl .exit))) ≡ rare e (standing (now (gpr .entry)) (now (cr .entry)) (now (kgpr .entry)) (now (kcr .entry)) (now (words .entry)) (now (ix .entry)) (now (vl .entry))) ⌝ }
+{
+    let t = rows_lift::lifted(&*gpr, &*cr, &*kgpr, &*kcr, &*words, &*ix, &*vl);
+    let d = rarely(t, e);
+    let u = d.thread;
+    rows_lift::laid(gpr, cr, kgpr, kcr, words, ix, vl, u);
+    d.answer
+}
+
+// An event that touches no line.
+fn quiet(answer: u8) -> Went
+    ensures { λ r. ⌜ r ≡ record { answer = answer; touch = Untouched } ⌝ }
+{
+    Went {
+        answer,
+        touch: Touch::Untouched,
+    }
+}
+
+// The event on its own thread's rows and on memory.
+pub fn effect(
+    gpr: &mut [u64; GPRS],
+    cr: &mut [u8; CR_FIELDS],
+    kgpr: &mut [u64; GPRS],
+    kcr: &mut [u8; CR_FIELDS],
+    words: &mut [u64; HEAD],
+    ix: &mut [u32; PLACES],
+    vl: &mut [u64; PLACES],
+    mem: &mut [u64],
+    e: Event,
+) -> Went
+    requires { ⌜ Ready e (standing (now gpr) (now cr) (now kgpr) (now kcr) (now words) (now ix) (now vl)) (length (now mem)) ⌝ }
+    ensures { λ r. ⌜ record { answer = r .answer; thread = standing (now (gpr .exit)) (now (cr .exit)) (now (kgpr .exit)) (now (kcr .exit)) (now (words .exit)) (now (ix .exit)) (now (vl .exit)); touch = r .touch; memory = now (mem .exit) } ≡ landed (effect e (standing (now (gpr .entry)) (now (cr .entry)) (now (kgpr .entry)) (now (kcr .entry)) (now (words .entry)) (now (ix .entry)) (now (vl .entry))) (now (mem .entry))) (held (head-of (now (words .entry))) (now (ix .entry)) (now (vl .entry))) (now (mem .entry)) ⌝ }
+{
+    match e {
+        Event::Tbegin { r } => quiet(power_begins::tbegin(gpr, cr, kgpr, kcr, words, r)),
+        Event::Tend { a } => power_begins::tend(words, &*ix, &*vl, mem, a),
+        Event::Tabort { ra } => quiet(tabort(gpr, cr, &*kgpr, &*kcr, words, ra)),
+        Event::Tabortwc { to, ra, rb } => quiet(tabortwc(
+            gpr,
+            cr,
+            &*kgpr,
+            &*kcr,
+            words,
+            to,
+            ra,
+            rb,
+        )),
+        Event::Tabortdc { to, ra, rb } => quiet(tabortdc(
+            gpr,
+            cr,
+            &*kgpr,
+            &*kcr,
+            words,
+            to,
+            ra,
+            rb,
+        )),
+        Event::Tsr { l } => quiet(power_begins::tsr(gpr, cr, &*kgpr, &*kcr, words, l)),
+        Event::Tcheck { bf } => quiet(power_reclaims::tcheck(cr, words, bf)),
+        Event::Treclaim { ra } => {
+            let rare = Rare::Treclaim { ra };
+            quiet(by_value(gpr, cr, kgpr, kcr, words, ix, vl, rare))
+        }
+        Event::Trechkpt => quiet(by_value(gpr, cr, kgpr, kcr, words, ix, vl, Rare::Trechkpt)),
+        Event::Mtspr { spr, ra } => {
+            let rare = Rare::Mtspr { spr, ra };
+            quiet(by_value(gpr, cr, kgpr, kcr, words, ix, vl, rare))
+        }
+        Event::Mfspr { rt, spr } => quiet(power_special::mfspr(gpr, words, rt, spr)),
+        Event::Ld { rt, index } => {
+            power_access::ld(
+                gpr,
+                cr,
+                &*kgpr,
+                &*kcr,
+                words,
+                &*ix,
+                &*vl,
+                &mem[..],
+                rt,
+                index,
+            )
+        }
+        Event::Std { ra, index } => {
+            let v = gpr[ra as usize];
+            power_access::std(gpr, cr, &*kgpr, &*kcr, words, ix, vl, mem, v, index)
+        }
+        Event::Addi { rt, ra, si } => quiet(power_plain::addi(gpr, words, rt, ra, si)),
+        Event::Disallowed => quiet(power_plain::disallowed(gpr, cr, &*kgpr, &*kcr, words)),
+        Event::Interrupt => quiet(power_plain::interrupt(words)),
+        Event::Host { pr, tm } => quiet(power_plain::host(words, pr, tm)),
     }
 }

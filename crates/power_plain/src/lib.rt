@@ -1,13 +1,20 @@
-// addi, the disallowed instruction, the interrupt, and the host's setting of PR and TM.
+// addi, the disallowed instruction, the interrupt, and the host's setting of PR and TM, each on its thread's rows.
 ghost use mathlib.Core.Path.{_≡_};
-ghost use Prim.Native.Nat.{_<_};
+ghost use mathlib.Core.List.{List};
+ghost use Prim.Native.Nat.{ℕ, _<_};
 ghost use Rattle.base.specs.Limits.{gprs};
-ghost use Rattle.power_plain.specs.Plain.{extended, addi, disallowed, asked, interrupted, interrupt, host};
+ghost use Rattle.rows.specs.Rows.{head-of, standing};
+ghost use Rattle.power_common.specs.Common.{did};
+ghost use Rattle.power_plain.specs.Plain.{extended, addi, disallowed, interrupted, interrupt, host};
+ghost use Rattle.power_plain.specs.Inner.{set-to};
+use base::CR_FIELDS;
+use base::GPRS;
 use base::answer;
-use power_common::Did;
+use power_common::place;
+use rows::HEAD;
+use rows::Head;
 use thread::Msr;
 use thread::State;
-use thread::Thread;
 use transaction::Cause;
 
 // SI sign-extended from 16 bits.
@@ -22,39 +29,64 @@ fn extended(si: u16) -> u64
 }
 
 // addi (RT, RA, SI)
-pub fn addi(t: Thread, rt: u8, ra: u8, si: u16) -> Did
+pub fn addi(gpr: &mut [u64; GPRS], words: &mut [u64; HEAD], rt: u8, ra: u8, si: u16) -> u8
     requires { ⌜ rt < gprs ⌝ }
     requires { ⌜ ra < gprs ⌝ }
-    ensures { λ d. ⌜ d ≡ addi t rt ra si ⌝ }
+    ensures { λ a. ⌜ ((cr kgpr kcr ix vl : List ℕ) → did a (standing (now (gpr .exit)) cr kgpr kcr (now (words .exit)) ix vl) ≡ addi (standing (now (gpr .entry)) cr kgpr kcr (now (words .entry)) ix vl) rt ra si) ⌝ }
 {
-    let v = std::num::wrapping_add_u64(power_common::gpr_or_0(t, ra), extended(si));
-    let u = power_common::put_gpr(t, rt, v);
-    power_common::passes(u)
+    let v = std::num::wrapping_add_u64(place::gpr_or_0(&*gpr, ra), extended(si));
+    gpr[rt as usize] = v;
+    place::passes(&mut *words);
+    answer::DONE
 }
 
 // A disallowed instruction
-pub fn disallowed(t: Thread) -> Did
-    ensures { λ d. ⌜ d ≡ disallowed (t .control .msr .state) t ⌝ }
+pub fn disallowed(
+    gpr: &mut [u64; GPRS],
+    cr: &mut [u8; CR_FIELDS],
+    kgpr: &[u64; GPRS],
+    kcr: &[u8; CR_FIELDS],
+    words: &mut [u64; HEAD],
+) -> u8
+    ensures { λ a. ⌜ ((ix vl : List ℕ) → did a (standing (now (gpr .exit)) (now (cr .exit)) (now (kgpr .entry)) (now (kcr .entry)) (now (words .exit)) ix vl) ≡ disallowed (head-of (now (words .entry)) .control .msr .state) (standing (now (gpr .entry)) (now (cr .entry)) (now (kgpr .entry)) (now (kcr .entry)) (now (words .entry)) ix vl)) ⌝ }
 {
-    let k = t.control;
-    let m = k.msr;
-    let s = m.state;
+    let s = rows::state_at(words[3]);
     match s {
-        State::N => power_common::passes(t),
-        State::T => power_common::fails(t, Cause::Disallowed),
-        State::S => power_common::passes(t),
+        State::N => {
+            place::passes(&mut *words);
+            answer::DONE
+        }
+        State::T => place::fails(
+            &mut *gpr,
+            &mut *cr,
+            kgpr,
+            kcr,
+            &mut *words,
+            Cause::Disallowed,
+        ),
+        State::S => {
+            place::passes(&mut *words);
+            answer::DONE
+        }
     }
 }
 
-fn asked(m: Msr, s: State, pr: bool, tm: bool) -> Msr
-    ensures { λ r. ⌜ r ≡ asked m s pr tm ⌝ }
+// The head in a state, with PR and TM.
+fn set_to(h: Head, s: State, pr: bool, tm: bool) -> Head
+    ensures { λ g. ⌜ g ≡ set-to h s pr tm ⌝ }
 {
-    Msr {
+    let mut k = h.control;
+    let m = k.msr;
+    let msr = Msr {
         pr,
         tm,
         state: s,
         doomed: m.doomed,
-    }
+    };
+    k.msr = msr;
+    let mut g = h;
+    g.control = k;
+    g
 }
 
 fn interrupted(s: State) -> State
@@ -68,35 +100,25 @@ fn interrupted(s: State) -> State
 }
 
 // An interrupt taken: the handler runs in S, and a failure there waits for tresume.
-pub fn interrupt(t: Thread) -> Did
-    ensures { λ d. ⌜ d ≡ interrupt t ⌝ }
+pub fn interrupt(words: &mut [u64; HEAD]) -> u8
+    ensures { λ a. ⌜ ((gpr cr kgpr kcr ix vl : List ℕ) → did a (standing gpr cr kgpr kcr (now (words .exit)) ix vl) ≡ interrupt (standing gpr cr kgpr kcr (now (words .entry)) ix vl)) ⌝ }
 {
-    let mut k = t.control;
+    let h = rows::read_head(&*words);
+    let k = h.control;
     let m = k.msr;
     let s = m.state;
-    let n = asked(m, interrupted(s), false, false);
-    k.msr = n;
-    let mut u = t;
-    u.control = k;
-    Did {
-        answer: answer::DONE,
-        thread: u,
-    }
+    rows::write_head(&mut *words, set_to(h, interrupted(s), false, false));
+    answer::DONE
 }
 
 // The host sets PR and TM.
-pub fn host(t: Thread, pr: bool, tm: bool) -> Did
-    ensures { λ d. ⌜ d ≡ host t pr tm ⌝ }
+pub fn host(words: &mut [u64; HEAD], pr: bool, tm: bool) -> u8
+    ensures { λ a. ⌜ ((gpr cr kgpr kcr ix vl : List ℕ) → did a (standing gpr cr kgpr kcr (now (words .exit)) ix vl) ≡ host (standing gpr cr kgpr kcr (now (words .entry)) ix vl) pr tm) ⌝ }
 {
-    let mut k = t.control;
+    let h = rows::read_head(&*words);
+    let k = h.control;
     let m = k.msr;
     let s = m.state;
-    let n = asked(m, s, pr, tm);
-    k.msr = n;
-    let mut u = t;
-    u.control = k;
-    Did {
-        answer: answer::DONE,
-        thread: u,
-    }
+    rows::write_head(&mut *words, set_to(h, s, pr, tm));
+    answer::DONE
 }

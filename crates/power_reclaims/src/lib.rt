@@ -1,9 +1,16 @@
-// tcheck, treclaim. and trechkpt.
+// tcheck, on its thread's rows; treclaim. and trechkpt., on the thread by value.
 ghost use mathlib.Core.Path.{_≡_};
-ghost use Prim.Native.Nat.{_<_};
+ghost use mathlib.Core.List.{List};
+ghost use Prim.Native.Nat.{ℕ, _<_};
 ghost use Rattle.base.specs.Limits.{gprs};
-ghost use Rattle.power_reclaims.specs.Reclaims.{check-field, put-cr, tcheck, reclaims, treclaim, trechkpt};
+ghost use Rattle.rows.specs.Rows.{standing};
+ghost use Rattle.power_common.specs.Common.{did};
+ghost use Rattle.power_reclaims.specs.Reclaims.{check-field, tcheck, reclaims, treclaim, trechkpt};
+use base::CR_FIELDS;
+use base::answer;
 use power_common::Did;
+use power_common::place;
+use rows::HEAD;
 use thread::Control;
 use thread::State;
 use thread::Thread;
@@ -20,30 +27,22 @@ fn check_field(k: Control) -> u8
     power_common::ts_field(s)
 }
 
-// CR field BF: CR0 stands apart from the others.
-fn put_cr(t: Thread, bf: u8, f: u8) -> Thread
+// tcheck (BF): CR0 stands apart from the other fields.
+pub fn tcheck(cr: &mut [u8; CR_FIELDS], words: &mut [u64; HEAD], bf: u8) -> u8
     requires { ⌜ bf < 8 ⌝ }
-    ensures { λ u. ⌜ u ≡ put-cr t bf f ⌝ }
+    ensures { λ a. ⌜ ((gpr kgpr kcr ix vl : List ℕ) → did a (standing gpr (now (cr .exit)) kgpr kcr (now (words .exit)) ix vl) ≡ tcheck (standing gpr (now (cr .entry)) kgpr kcr (now (words .entry)) ix vl) bf) ⌝ }
 {
-    let mut u = t;
+    let h = rows::read_head(&*words);
+    let f = check_field(h.control);
     if bf == 0 {
-        u.cr0 = f;
-        return u;
+        let mut g = h;
+        g.cr0 = f;
+        rows::write_head(&mut *words, place::advanced(g));
+        return answer::DONE;
     }
-    let mut live = t.live;
-    live.cr[(bf - 1) as usize] = f;
-    u.live = live;
-    u
-}
-
-// tcheck (BF)
-pub fn tcheck(t: Thread, bf: u8) -> Did
-    requires { ⌜ bf < 8 ⌝ }
-    ensures { λ d. ⌜ d ≡ tcheck t bf ⌝ }
-{
-    let k = t.control;
-    let u = put_cr(t, bf, check_field(k));
-    power_common::passes(u)
+    cr[(bf - 1) as usize] = f;
+    place::passes(&mut *words);
+    answer::DONE
 }
 
 // The checkpoint put back, in N, with nothing held.
@@ -68,7 +67,9 @@ pub fn treclaim(t: Thread, ra: u8) -> Did
     let k = t.control;
     let m = k.msr;
     let s = m.state;
-    let u = power_common::own_recording(t, power_common::abort_cause(t, ra));
+    let live = t.live;
+    let cause = place::abort_cause(&live.gpr, ra);
+    let u = power_common::own_recording(t, cause);
     let mut v = reclaims(u);
     v.cr0 = power_common::ts_field(s);
     power_common::passes(v)

@@ -1,9 +1,16 @@
-// mtspr and mfspr.
+// mtspr, on the thread by value, and mfspr, on its rows.
 ghost use mathlib.Core.Path.{_≡_};
-ghost use Prim.Native.Nat.{_<_};
+ghost use mathlib.Core.List.{List};
+ghost use Prim.Native.Nat.{ℕ, _<_};
 ghost use Rattle.base.specs.Limits.{gprs};
+ghost use Rattle.rows.specs.Rows.{standing};
+ghost use Rattle.power_common.specs.Common.{did};
 ghost use Rattle.power_special.specs.Special.{put-spr, mtspr, get-tfiar, get-spr, mfspr};
+use base::GPRS;
+use base::answer;
 use power_common::Did;
+use power_common::place;
+use rows::HEAD;
 use thread::Control;
 use thread::Failure;
 use thread::Thread;
@@ -34,7 +41,8 @@ pub fn mtspr(t: Thread, spr: u8, ra: u8) -> Did
     ensures { λ d. ⌜ d ≡ mtspr t spr ra ⌝ }
 {
     let mut k = t.control;
-    let f = put_spr(k.failure, spr, power_common::gpr(t, ra));
+    let live = t.live;
+    let f = put_spr(k.failure, spr, live.gpr[ra as usize]);
     k.failure = f;
     let mut u = t;
     u.control = k;
@@ -72,11 +80,12 @@ fn get_spr(k: Control, spr: u8) -> u64
 }
 
 // mfspr (RT, SPR)
-pub fn mfspr(t: Thread, rt: u8, spr: u8) -> Did
+pub fn mfspr(gpr: &mut [u64; GPRS], words: &mut [u64; HEAD], rt: u8, spr: u8) -> u8
     requires { ⌜ rt < gprs ⌝ }
-    ensures { λ d. ⌜ d ≡ mfspr t rt spr ⌝ }
+    ensures { λ a. ⌜ ((cr kgpr kcr ix vl : List ℕ) → did a (standing (now (gpr .exit)) cr kgpr kcr (now (words .exit)) ix vl) ≡ mfspr (standing (now (gpr .entry)) cr kgpr kcr (now (words .entry)) ix vl) rt spr) ⌝ }
 {
-    let k = t.control;
-    let u = power_common::put_gpr(t, rt, get_spr(k, spr));
-    power_common::passes(u)
+    let h = rows::read_head(&*words);
+    gpr[rt as usize] = get_spr(h.control, spr);
+    place::passes(&mut *words);
+    answer::DONE
 }

@@ -175,7 +175,7 @@ pub fn restore(t: Thread) -> Thread
 }
 
 // The failure registers with a cause noted for an instruction's address.
-fn noted(k: Control, cause: Cause, exact: bool, at: u64) -> Failure
+pub fn noted(k: Control, cause: Cause, exact: bool, at: u64) -> Failure
     ensures { λ r. ⌜ r ≡ noted k cause exact at ⌝ }
 {
     let m = k.msr;

@@ -1,44 +1,36 @@
--- `conflict::strike` meets its contract: after i threads, all but the accessor below i are struck.
+-- `conflict::strike` meets its contract.
+use Prim.Native.Nat.{ℕ, _-_, _≤_}
+use Rattle.conflict.proofs.Laws.{strike-none, strike-step, strike-above}
+use Rattle.conflict.specs.Conflict as conflict
+use Rattle.conflict.specs.Inner.{touching}
+use Rattle.machine.specs.Machine as machine
+use Rattle.rows.specs.Rows.{rows, threads-of}
+use Rattle.thread.specs.declared.Thread.{Thread}
 use borrow.Author.Needs.{needs}
-use borrow.Author.Tests.{eq-eqb, ne-eqb}
-use mathlib.Core.Path.{_≡_, sym, ap, _∙_}
-use mathlib.Core.Bool.{cond}
-use mathlib.Core.Logic.{⊎-elim}
-use Prim.Native.Nat.{ℕ, _≤_, _-_}
-use native.Mathlib.Omega.{arith}
 use lib.Dec.{eqb}
 use lib.ListN.{set}
-use Rattle.machine.specs.Machine.{thread, with-threads}
-use Rattle.conflict.specs.Conflict.{struck, strike}
-use Rattle.conflict.proofs.Laws.{strike-none, strike-step}
+use mathlib.Core.Bool.{cond}
+use mathlib.Core.List.{List}
+use mathlib.Core.Path.{_≡_, sym, ap, _∙_}
+use native.Mathlib.Omega.{arith}
 use Rattle.conflict.proofs.strike.Statement.{statement}
 use Rattle.conflict.proofs.strike.Tie as tie
 
 abbrev Inv-loop : tie.InvT-loop
-Inv-loop w touch cause m n₀ i₀ n i = (i ≤ 4) × (n ≡ with-threads m (strike (m .threads) w touch cause i))
+Inv-loop gpr₀ cr₀ kgpr kcr words₀ w stores line cause i₀ gpr cr words i =
+    (i ≤ 4)
+    × ((ix vl : List (List ℕ)) → threads-of (rows gpr cr kgpr kcr words ix vl) ≡ conflict.strike (threads-of (rows gpr₀ cr₀ kgpr kcr words₀ ix vl)) w (touching stores line) cause i)
 
 abbrev μ-loop : tie.MeasureT-loop
-μ-loop w touch cause m n₀ i₀ n i = 4 - i
+μ-loop gpr₀ cr₀ kgpr kcr words₀ w stores line cause i₀ gpr cr words i = 4 - i
 
 loop-holds : tie.Need-loop-holds Inv-loop μ-loop
 loop-holds c =
-    let s = c .args in
-    (omega arith, ap (with-threads (s .t1)) (strike-none (s .t1 .threads) (s .w) (s .touch) (s .cause)))
+    let a = c .args in
+    (omega arith, λ ix vl. strike-none (threads-of (rows (a .gpr .now) (a .cr .now) (a .kgpr .now) (a .kcr .now) (a .words .now) ix vl)) (a .w) (touching (a .stores) (a .line)) (a .cause))
 
-mul-t : tie.Need-mul-t Inv-loop μ-loop
-mul-t c = search needs
-
-element-copy-out-t : tie.Need-element-copy-out-t Inv-loop μ-loop
-element-copy-out-t c = search needs
-
-struck-requires : tie.Need-struck-requires Inv-loop μ-loop
-struck-requires c κs = search needs
-
-mul-u : tie.Need-mul-u Inv-loop μ-loop
-mul-u c = search needs
-
-element-set-from-u : tie.Need-element-set-from-u Inv-loop μ-loop
-element-set-from-u c = search needs
+strike-at-requires : tie.Need-strike-at-requires Inv-loop μ-loop
+strike-at-requires c κs = search needs
 
 add-i : tie.Need-add-i Inv-loop μ-loop
 add-i c = search needs
@@ -48,34 +40,25 @@ loop-less c = search needs
 
 loop-again : tie.Need-loop-again Inv-loop μ-loop
 loop-again c =
-    let a = c .before .before in
-    let s = a .before .args in
-    let i = a .loop .i in
-    let so-far = strike (s .t1 .threads) (s .w) (s .touch) (s .cause) i in
-    let t = thread (s .t1 .threads) i in
-    let now : c .if1 .n ≡ with-threads (s .t1) (cond (eqb i (s .w)) so-far (set so-far i (struck (t .control .msr .state) t (s .touch) (s .cause)))) =
-    ⊎-elim (λ w. w .3 ∙ simp (a .loop .inv .1, w .2 .ensures, ne-eqb _ _ (w .0 .taken))) (λ w. w .1 ∙ simp (a .loop .inv .1, eq-eqb _ _ (w .0 .left))) (c .if1 .came) in
-    (omega arith, now ∙ ap (with-threads (s .t1)) (sym (strike-step (s .t1 .threads) (s .w) (s .touch) (s .cause) i)))
+    let l = c .before .before .before .before .before in
+    let a = l .before .args in
+    let i = l .loop .i in (
+      omega arith,
+      λ ix vl.
+          let was = threads-of (rows (a .gpr .now) (a .cr .now) (a .kgpr .now) (a .kcr .now) (a .words .now) ix vl) in
+          let so-far = conflict.strike was (a .w) (touching (a .stores) (a .line)) (a .cause) i in
+          c .strike-at .ensures ix vl
+          ∙ ap (λ (ts : List Thread). cond (eqb i (a .w)) ts (set ts i (conflict.struck (machine.thread ts i .control .msr .state) (machine.thread ts i) (touching (a .stores) (a .line)) (a .cause)))) (l .loop .inv .1 ix vl)
+          ∙ ap (λ (t : Thread). cond (eqb i (a .w)) so-far (set so-far i (conflict.struck (t .control .msr .state) t (touching (a .stores) (a .line)) (a .cause)))) (strike-above was (a .w) (touching (a .stores) (a .line)) (a .cause) i i (omega arith))
+          ∙ sym (strike-step was (a .w) (touching (a .stores) (a .line)) (a .cause) i),
+    )
 
 returns : tie.Need-returns Inv-loop μ-loop
 returns c =
-    let s = c .before .before .args in
-    c .before .loop .inv .1
-    ∙ ap (λ (k : ℕ). with-threads (s .t1) (strike (s .t1 .threads) (s .w) (s .touch) (s .cause) k)) (let e : c .before .loop .i ≡ 4 = omega arith in e)
+    let a = c .before .before .args in
+    λ ix vl. c .before .loop .inv .1 ix vl ∙ ap (λ (n : ℕ). conflict.strike (threads-of (rows (a .gpr .now) (a .cr .now) (a .kgpr .now) (a .kcr .now) (a .words .now) ix vl)) (a .w) (touching (a .stores) (a .line)) (a .cause) n) (let e : c .before .loop .i ≡ 4 = omega arith in e)
 
 pub strike-spec : {M : Type 1} → statement M
 strike-spec =
     tie.close
-    (tie.spec
-    Inv-loop
-    μ-loop
-    loop-holds
-    mul-t
-    element-copy-out-t
-    struck-requires
-    mul-u
-    element-set-from-u
-    add-i
-    loop-less
-    loop-again
-    returns)
+    (tie.spec Inv-loop μ-loop loop-holds strike-at-requires add-i loop-less loop-again returns)

@@ -1,37 +1,31 @@
 -- `conflict::struck` meets its contract.
-use mathlib.Core.Path.{sym, _∙_}
-use Rattle.conflict.specs.Conflict.{struck}
+use Rattle.conflict.proofs.Laws.{hits-is, unstruck}
+use Rattle.conflict.specs.Inner.{touching}
+use Rattle.rows.specs.Rows.{head-of, standing}
 use borrow.Author.Needs.{needs}
+use mathlib.Core.Path.{sym, _∙_}
 use Rattle.conflict.proofs.struck.Statement.{statement}
 use Rattle.conflict.proofs.struck.Tie as tie
 
-is-live-requires : tie.Need-is-live-requires
-is-live-requires c κs = search needs
-
-hits-requires : tie.Need-hits-requires
-hits-requires c κs = search needs
+hit-requires : tie.Need-hit-requires
+hit-requires c κs = search needs
 
 felled-requires : tie.Need-felled-requires
 felled-requires c κs = search needs
 
 returns : tie.Need-returns
-unfolding struck
 returns c =
-    let h = c .before .before in
-    let l = h .before .before in
-    simp (c .felled .ensures, sym (h .hits .ensures) ∙ c .before .if2 .taken, sym (l .before .is-live .ensures) ∙ l .if1 .taken)
+    let h = c .before .before .before .before in
+    let a = h .before .before .before .args in
+    λ ix vl. c .felled .ensures ix vl (a .stores) (a .line) (sym (h .before .hit .ensures) ∙ h .if1 .taken)
 
 returns-2 : tie.Need-returns-2
-unfolding struck
 returns-2 c =
-    let h = c .before in
-    let l = h .before .before in
-    simp (sym (h .hits .ensures) ∙ c .if2 .left, sym (l .before .is-live .ensures) ∙ l .if1 .taken)
-
-returns-3 : tie.Need-returns-3
-unfolding struck
-returns-3 c = simp (sym (c .before .is-live .ensures) ∙ c .if1 .left)
+    let a = c .before .before .before .args in
+    let h = head-of (a .words .now) in
+    λ ix vl.
+    sym
+    (unstruck (standing (a .gpr .now) (a .cr .now) (a .kgpr .now) (a .kcr .now) (a .words .now) ix vl) (touching (a .stores) (a .line)) (a .cause) (h .control .msr .state) (hits-is h ix vl (a .stores) (a .line) ∙ sym (c .before .hit .ensures) ∙ c .if1 .left))
 
 pub struck-spec : {M : Type 1} → statement M
-struck-spec =
-    tie.close (tie.spec is-live-requires hits-requires felled-requires returns returns-2 returns-3)
+struck-spec = tie.close (tie.spec hit-requires felled-requires returns returns-2)

@@ -1,57 +1,120 @@
 -- `power_access::std` meets its contract.
-use Rattle.power_access.specs.Access.{std}
+use Rattle.base.specs.Answers as answer
+use Rattle.power_access.specs.Access.{stores, std}
+use Rattle.power_common.specs.Common.{did}
+use Rattle.power_common.specs.declared.Did.{Did}
+use Rattle.rows.specs.Landed.{Landed, landed}
+use Rattle.rows.specs.Rows.{head-of, thread-with, standing, held}
+use Rattle.thread.specs.declared.Effect.{Effect}
+use Rattle.thread.specs.declared.State.{State}
+use Rattle.thread.specs.declared.Thread.{Thread}
+use Rattle.transaction.specs.Transaction.{written}
+use Rattle.transaction.specs.declared.Write.the-variants.{Doubleword}
 use borrow.Author.Needs.{needs}
+use mathlib.Core.Path.{_≡_, sym, ap, _∙_}
 use Rattle.power_access.proofs.std.Statement.{statement}
 use Rattle.power_access.proofs.std.Tie as tie
+
+-- the thread at the start
+abbrev thread : (c : tie.Start) → Thread
+thread c = standing (c .args .gpr .now) (c .args .cr .now) (c .args .kgpr .now) (c .args .kcr .now) (c .args .words .now) (c .args .ix .now) (c .args .vl .now)
+
+-- what an effect leaves
+abbrev left : (c : tie.Start) → Effect → Landed
+left c f = landed f (held (head-of (c .args .words .now)) (c .args .ix .now) (c .args .vl .now)) (c .args .mem .now)
+
+-- by the state that the row names
+by-state : (c : tie.After-state-at) (s : State) → c .state-at .result ≡ s → let o = c .before .before .before in
+    left o (std (head-of (o .args .words .now) .control .msr .state) (thread o) (o .args .value) (o .args .index)) ≡ left o (std s (thread o) (o .args .value) (o .args .index))
+unfolding head-of
+by-state c s p = let o = c .before .before .before in λ j. left o (std ((sym (c .state-at .ensures) ∙ p) j) (thread o) (o .args .value) (o .args .index))
+
+element-copy-out-state-at : tie.Need-element-copy-out-state-at
+element-copy-out-state-at c = search needs
+
+state-at-requires : tie.Need-state-at-requires
+state-at-requires c κs = search needs
 
 enum-told : tie.Need-enum-told
 enum-told c = search needs
 
+mul-mem : tie.Need-mul-mem
+mul-mem c = search needs
+
+slice-write-mem : tie.Need-slice-write-mem
+slice-write-mem c = search needs
+
 passes-requires : tie.Need-passes-requires
 passes-requires c κs = search needs
-
-stores-requires : tie.Need-stores-requires
-stores-requires c κs = search needs
 
 enum-told-2 : tie.Need-enum-told-2
 enum-told-2 c = search needs
 
-std-transactional-requires : tie.Need-std-transactional-requires
-std-transactional-requires c κs = search needs
+logs-requires : tie.Need-logs-requires
+logs-requires c κs = search needs
 
 enum-told-3 : tie.Need-enum-told-3
 enum-told-3 c = search needs
 
+mul-mem-2 : tie.Need-mul-mem-2
+mul-mem-2 c = search needs
+
+slice-write-mem-2 : tie.Need-slice-write-mem-2
+slice-write-mem-2 c = search needs
+
 meets-own-requires : tie.Need-meets-own-requires
 meets-own-requires c κs = search needs
 
-stores-requires-2 : tie.Need-stores-requires-2
-stores-requires-2 c κs = search needs
+same-length : tie.Need-same-length
+same-length c = search needs
 
 returns : tie.Need-returns
-unfolding std
-returns c = simp (c .stores .ensures, c .before .passes .ensures, c .before .before .enum-told .given .1)
+unfolding std written
+returns c =
+    let e = c .before .before in
+    let r = e .before .before in
+    let s = r .before .before .before in
+    (λ j. left s (stores (did answer.done (thread-with (c .passes .ensures j) (s .args .gpr .now) (s .args .cr .now) (s .args .kgpr .now) (s .args .kcr .now) (s .args .ix .now) (s .args .vl .now))) (s .args .index) (Doubleword (s .args .index) (s .args .value))))
+    ∙ sym (by-state r State.N (e .enum-told .given .1))
 
 returns-2 : tie.Need-returns-2
-unfolding std
-returns-2 c = simp (c .std-transactional .ensures, c .before .enum-told2 .given .1)
+unfolding std written
+returns-2 c =
+    let e = c .before .before .before .before .before .before in
+    let r = e .before .before in
+    let s = r .before .before .before in
+    c .logs .ensures (s .args .mem .now) ∙ sym (by-state r State.T (e .enum-told2 .given .1))
+
+same-length-2 : tie.Need-same-length-2
+same-length-2 c = search needs
 
 returns-3 : tie.Need-returns-3
-unfolding std
-returns-3 c = simp (c .stores2 .ensures, c .before .meets-own .ensures, c .before .before .enum-told3 .given .1)
+unfolding std written
+returns-3 c =
+    let e = c .before .before in
+    let r = e .before .before in
+    let s = r .before .before .before in
+    ap (λ (d : Did). left s (stores d (s .args .index) (Doubleword (s .args .index) (s .args .value)))) (c .meets-own .ensures (s .args .gpr .now) (s .args .cr .now) (s .args .kgpr .now) (s .args .kcr .now) (s .args .ix .now) (s .args .vl .now))
+    ∙ sym (by-state r State.S (e .enum-told3 .given .1))
 
 pub std-spec : {M : Type 1} → statement M
 std-spec =
     tie.close
     (tie.spec
+    element-copy-out-state-at
+    state-at-requires
     enum-told
+    mul-mem
+    slice-write-mem
     passes-requires
-    stores-requires
     enum-told-2
-    std-transactional-requires
+    logs-requires
     enum-told-3
+    mul-mem-2
+    slice-write-mem-2
     meets-own-requires
-    stores-requires-2
+    same-length
     returns
     returns-2
+    same-length-2
     returns-3)

@@ -1,19 +1,44 @@
 -- `power_access::takes` meets its contract.
+use Rattle.base.specs.Answers as answer
+use Rattle.power_common.specs.Common.{did}
+use Rattle.rows.specs.Rows.{head-of, thread-with}
 use borrow.Author.Needs.{needs}
+use lib.ListN.{set}
 use Rattle.power_access.proofs.takes.Statement.{statement}
 use Rattle.power_access.proofs.takes.Tie as tie
 
-load-requires : tie.Need-load-requires
-load-requires c κs = search needs
+element-copy-out-count : tie.Need-element-copy-out-count
+element-copy-out-count c = search needs
 
-put-gpr-requires : tie.Need-put-gpr-requires
-put-gpr-requires c κs = search needs
+load-requires : tie.Need-load-requires
+unfolding head-of
+load-requires c κs =
+    let s = c .before .before in
+    (s .pre .0, s .pre .1 .1)
+
+mul-gpr : tie.Need-mul-gpr
+mul-gpr c = search needs
+
+element-write-gpr : tie.Need-element-write-gpr
+element-write-gpr c = search needs
 
 passes-requires : tie.Need-passes-requires
 passes-requires c κs = search needs
 
 returns : tie.Need-returns
-returns c = simp (c .passes .ensures, c .before .put-gpr .ensures, c .before .before .load .ensures)
+unfolding head-of
+returns c =
+    let l = c .before .before in
+    let a = l .before .before .before .args in
+    λ cr kgpr kcr j. did answer.done (thread-with (c .passes .ensures j) (set (a .gpr .now) (a .rt) (l .load .ensures j)) cr kgpr kcr (a .ix .now) (a .vl .now))
 
 pub takes-spec : {M : Type 1} → statement M
-takes-spec = tie.close (tie.spec load-requires put-gpr-requires passes-requires returns)
+takes-spec =
+    tie.close
+    (tie.spec
+    element-copy-out-count
+    load-requires
+    mul-gpr
+    element-write-gpr
+    passes-requires
+    returns)

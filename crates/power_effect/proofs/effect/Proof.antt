@@ -1,10 +1,30 @@
 -- `power_effect::effect` meets its contract.
-use native.Mathlib.Omega.{arith}
+use lib.ListN.{length}
+use mathlib.Core.Path.{_≡_, sym, ap, _∙_, subst}
 use Rattle.event.proofs.Laws.{tabort-register, tabortwc-registers, tabortdc-registers, tcheck-field, treclaim-register, mtspr-register, mfspr-register, ld-in, std-in, addi-registers}
+use Rattle.event.specs.declared.Event.{Event}
+use Rattle.rows.specs.Landed.{landed}
+use Rattle.rows.specs.Rows.{standing}
+use Rattle.thread.specs.declared.Thread.{Thread}
 use Rattle.power_effect.specs.Effects.{effect}
+use Rattle.power_effect.specs.Inner.{Ready, rare}
+use Rattle.power_effect.proofs.Laws.{line-in, quieted}
 use borrow.Author.Needs.{needs}
 use Rattle.power_effect.proofs.effect.Statement.{statement}
 use Rattle.power_effect.proofs.effect.Tie as tie
+
+-- the thread at the start
+abbrev thread : (c : tie.Start) → Thread
+thread c = standing (c .args .gpr .now) (c .args .cr .now) (c .args .kgpr .now) (c .args .kcr .now) (c .args .words .now) (c .args .ix .now) (c .args .vl .now)
+
+-- the event that it is ready for, by its case
+ready : (c : tie.Start) (e : Event) → c .args .e ≡ e → Ready e (thread c) (length (c .args .mem .now))
+ready c e p = subst (λ (x : Event). Ready x (thread c) (length (c .args .mem .now))) p (c .pre)
+
+-- what it leaves, by its case
+done : (c : tie.Start) (e : Event) → c .args .e ≡ e
+    → landed (effect e (thread c) (c .args .mem .now)) (thread c .transaction) (c .args .mem .now) ≡ landed (effect (c .args .e) (thread c) (c .args .mem .now)) (thread c .transaction) (c .args .mem .now)
+done c e p = sym (ap (λ (x : Event). landed (effect x (thread c) (c .args .mem .now)) (thread c .transaction) (c .args .mem .now)) p)
 
 enum-known-e : tie.Need-enum-known-e
 enum-known-e c = search needs
@@ -26,9 +46,10 @@ enum-known-e-3 c = search needs
 
 tabort-requires : tie.Need-tabort-requires
 tabort-requires c κs =
-    let e = c .before in
-    let p = rw (e .e3 .given .1) at (e .before .before .before .pre .0) in
-    tabort-register (e .e3 .given .0 .0) _ p
+    let e = c .before .before .before .before .before .before in
+    let s = e .before .before .before in
+    let r = ready s _ (e .e3 .given .1) in
+    tabort-register _ _ (r .operands)
 
 quiet-requires-2 : tie.Need-quiet-requires-2
 quiet-requires-2 c κs = search needs
@@ -38,9 +59,10 @@ enum-known-e-4 c = search needs
 
 tabortwc-requires : tie.Need-tabortwc-requires
 tabortwc-requires c κs =
-    let e = c .before in
-    let p = rw (e .e4 .given .1) at (e .before .before .before .pre .0) in
-    tabortwc-registers (e .e4 .given .0 .0) (e .e4 .given .0 .1 .0) (e .e4 .given .0 .1 .1 .0) _ p
+    let e = c .before .before .before .before .before .before in
+    let s = e .before .before .before in
+    let r = ready s _ (e .e4 .given .1) in
+    tabortwc-registers _ _ _ _ (r .operands)
 
 quiet-requires-3 : tie.Need-quiet-requires-3
 quiet-requires-3 c κs = search needs
@@ -50,9 +72,10 @@ enum-known-e-5 c = search needs
 
 tabortdc-requires : tie.Need-tabortdc-requires
 tabortdc-requires c κs =
-    let e = c .before in
-    let p = rw (e .e5 .given .1) at (e .before .before .before .pre .0) in
-    tabortdc-registers (e .e5 .given .0 .0) (e .e5 .given .0 .1 .0) (e .e5 .given .0 .1 .1 .0) _ p
+    let e = c .before .before .before .before .before .before in
+    let s = e .before .before .before in
+    let r = ready s _ (e .e5 .given .1) in
+    tabortdc-registers _ _ _ _ (r .operands)
 
 quiet-requires-4 : tie.Need-quiet-requires-4
 quiet-requires-4 c κs = search needs
@@ -71,9 +94,10 @@ enum-known-e-7 c = search needs
 
 tcheck-requires : tie.Need-tcheck-requires
 tcheck-requires c κs =
-    let e = c .before in
-    let p = rw (e .e7 .given .1) at (e .before .before .before .pre .0) in
-    tcheck-field (e .e7 .given .0 .0) _ p
+    let e = c .before .before .before in
+    let s = e .before .before .before in
+    let r = ready s _ (e .e7 .given .1) in
+    tcheck-field _ _ (r .operands)
 
 quiet-requires-6 : tie.Need-quiet-requires-6
 quiet-requires-6 c κs = search needs
@@ -81,11 +105,12 @@ quiet-requires-6 c κs = search needs
 enum-known-e-8 : tie.Need-enum-known-e-8
 enum-known-e-8 c = search needs
 
-treclaim-requires : tie.Need-treclaim-requires
-treclaim-requires c κs =
-    let e = c .before in
-    let p = rw (e .e8 .given .1) at (e .before .before .before .pre .0) in
-    treclaim-register (e .e8 .given .0 .0) _ p
+by-value-requires : tie.Need-by-value-requires
+by-value-requires c κs =
+    let e = c .before .before .before .before .before .before .before .before in
+    let s = e .before .before .before in
+    let r = ready s _ (e .e8 .given .1) in
+    (treclaim-register _ _ (r .operands), r .places)
 
 quiet-requires-7 : tie.Need-quiet-requires-7
 quiet-requires-7 c κs = search needs
@@ -93,8 +118,8 @@ quiet-requires-7 c κs = search needs
 enum-told : tie.Need-enum-told
 enum-told c = search needs
 
-trechkpt-requires : tie.Need-trechkpt-requires
-trechkpt-requires c κs = search needs
+by-value-requires-2 : tie.Need-by-value-requires-2
+by-value-requires-2 c κs = search needs
 
 quiet-requires-8 : tie.Need-quiet-requires-8
 quiet-requires-8 c κs = search needs
@@ -102,11 +127,12 @@ quiet-requires-8 c κs = search needs
 enum-known-e-9 : tie.Need-enum-known-e-9
 enum-known-e-9 c = search needs
 
-mtspr-requires : tie.Need-mtspr-requires
-mtspr-requires c κs =
-    let e = c .before in
-    let p = rw (e .e9 .given .1) at (e .before .before .before .pre .0) in
-    mtspr-register (e .e9 .given .0 .0) (e .e9 .given .0 .1 .0) _ p
+by-value-requires-3 : tie.Need-by-value-requires-3
+by-value-requires-3 c κs =
+    let e = c .before .before .before .before .before .before .before .before in
+    let s = e .before .before .before in
+    let r = ready s _ (e .e9 .given .1) in
+    (mtspr-register _ _ _ (r .operands), r .places)
 
 quiet-requires-9 : tie.Need-quiet-requires-9
 quiet-requires-9 c κs = search needs
@@ -116,9 +142,10 @@ enum-known-e-10 c = search needs
 
 mfspr-requires : tie.Need-mfspr-requires
 mfspr-requires c κs =
-    let e = c .before in
-    let p = rw (e .e10 .given .1) at (e .before .before .before .pre .0) in
-    mfspr-register (e .e10 .given .0 .0) (e .e10 .given .0 .1 .0) _ p
+    let e = c .before .before .before in
+    let s = e .before .before .before in
+    let r = ready s _ (e .e10 .given .1) in
+    mfspr-register _ _ _ (r .operands)
 
 quiet-requires-10 : tie.Need-quiet-requires-10
 quiet-requires-10 c κs = search needs
@@ -128,34 +155,45 @@ enum-known-e-11 c = search needs
 
 ld-requires : tie.Need-ld-requires
 ld-requires c κs =
-    let e = c .before in
+    let e = c .before .before .before .before .before .before .before .before .before in
     let s = e .before .before .before in
-    let h = ld-in (e .e11 .given .0 .0) (e .e11 .given .0 .1 .0) _ (rw (e .e11 .given .1) at (s .pre .0)) in
-    (s .pre .1 .1, (h .0, (omega (arith, h .1, s .pre .1 .0), h .1)))
+    let r = ready s _ (e .e11 .given .1) in
+    let h = ld-in _ _ _ (r .operands) in
+    (r .places, (h .0, (line-in _ _ (h .1) (r .memory), h .1)))
 
 enum-known-e-12 : tie.Need-enum-known-e-12
 enum-known-e-12 c = search needs
 
-gpr-requires : tie.Need-gpr-requires
-gpr-requires c κs =
+cast-v : tie.Need-cast-v
+cast-v c = search needs
+
+mul-v : tie.Need-mul-v
+mul-v c = search needs
+
+element-copy-out-v : tie.Need-element-copy-out-v
+element-copy-out-v c =
     let e = c .before in
-    std-in (e .e12 .given .0 .0) (e .e12 .given .0 .1 .0) _ (rw (e .e12 .given .1) at (e .before .before .before .pre .0)) .0
+    let s = e .before .before .before in
+    let r = ready s _ (e .e12 .given .1) in
+    std-in _ _ _ (r .operands) .0
 
 std-requires : tie.Need-std-requires
 std-requires c κs =
-    let e = c .before .before in
+    let e = c .before .before .before .before .before .before .before .before .before .before in
     let s = e .before .before .before in
-    let h = std-in (e .e12 .given .0 .0) (e .e12 .given .0 .1 .0) _ (rw (e .e12 .given .1) at (s .pre .0)) in
-    (s .pre .1 .1, omega (arith, h .1, s .pre .1 .0))
+    let r = ready s _ (e .e12 .given .1) in
+    let h = std-in _ _ _ (r .operands) in
+    (r .places, (line-in _ _ (h .1) (r .memory), h .1))
 
 enum-known-e-13 : tie.Need-enum-known-e-13
 enum-known-e-13 c = search needs
 
 addi-requires : tie.Need-addi-requires
 addi-requires c κs =
-    let e = c .before in
-    let p = rw (e .e13 .given .1) at (e .before .before .before .pre .0) in
-    addi-registers (e .e13 .given .0 .0) (e .e13 .given .0 .1 .0) (e .e13 .given .0 .1 .1 .0) _ p
+    let e = c .before .before .before in
+    let s = e .before .before .before in
+    let r = ready s _ (e .e13 .given .1) in
+    addi-registers _ _ _ _ (r .operands)
 
 quiet-requires-11 : tie.Need-quiet-requires-11
 quiet-requires-11 c κs = search needs
@@ -189,71 +227,148 @@ quiet-requires-14 c κs = search needs
 
 returns : tie.Need-returns
 unfolding effect
-returns c = simp (c .quiet .ensures, c .before .tbegin .ensures, c .before .before .before .e .given .1)
+returns c =
+    let f = c .before in
+    let e = f .before .before .before .before .before .before .before in
+    let s = e .before .before .before in
+    quieted _ _ _ _ (thread s .transaction) (s .args .mem .now) (c .quiet .ensures) (f .tbegin .ensures (s .args .ix .now) (s .args .vl .now)) ∙ done s _ (e .e .given .1)
+
+same-length : tie.Need-same-length
+same-length c = search needs
 
 returns-2 : tie.Need-returns-2
 unfolding effect
-returns-2 c = simp (c .tend .ensures, c .before .before .e2 .given .1)
+returns-2 c =
+    let f = c .before .before in
+    let e = f .before .before .before .before .before .before in
+    let s = e .before .before .before in
+    f .tend .ensures (s .args .gpr .now) (s .args .cr .now) (s .args .kgpr .now) (s .args .kcr .now) ∙ done s _ (e .e2 .given .1)
 
 returns-3 : tie.Need-returns-3
 unfolding effect
-returns-3 c = simp (c .quiet2 .ensures, c .before .tabort .ensures, c .before .before .before .e3 .given .1)
+returns-3 c =
+    let f = c .before in
+    let e = f .before .before .before .before .before .before .before in
+    let s = e .before .before .before in
+    quieted _ _ _ _ (thread s .transaction) (s .args .mem .now) (c .quiet2 .ensures) (f .tabort .ensures (s .args .ix .now) (s .args .vl .now)) ∙ done s _ (e .e3 .given .1)
 
 returns-4 : tie.Need-returns-4
 unfolding effect
-returns-4 c = simp (c .quiet3 .ensures, c .before .tabortwc .ensures, c .before .before .before .e4 .given .1)
+returns-4 c =
+    let f = c .before in
+    let e = f .before .before .before .before .before .before .before in
+    let s = e .before .before .before in
+    quieted _ _ _ _ (thread s .transaction) (s .args .mem .now) (c .quiet3 .ensures) (f .tabortwc .ensures (s .args .ix .now) (s .args .vl .now)) ∙ done s _ (e .e4 .given .1)
 
 returns-5 : tie.Need-returns-5
 unfolding effect
-returns-5 c = simp (c .quiet4 .ensures, c .before .tabortdc .ensures, c .before .before .before .e5 .given .1)
+returns-5 c =
+    let f = c .before in
+    let e = f .before .before .before .before .before .before .before in
+    let s = e .before .before .before in
+    quieted _ _ _ _ (thread s .transaction) (s .args .mem .now) (c .quiet4 .ensures) (f .tabortdc .ensures (s .args .ix .now) (s .args .vl .now)) ∙ done s _ (e .e5 .given .1)
 
 returns-6 : tie.Need-returns-6
 unfolding effect
-returns-6 c = simp (c .quiet5 .ensures, c .before .tsr .ensures, c .before .before .before .e6 .given .1)
+returns-6 c =
+    let f = c .before in
+    let e = f .before .before .before .before .before .before .before in
+    let s = e .before .before .before in
+    quieted _ _ _ _ (thread s .transaction) (s .args .mem .now) (c .quiet5 .ensures) (f .tsr .ensures (s .args .ix .now) (s .args .vl .now)) ∙ done s _ (e .e6 .given .1)
 
 returns-7 : tie.Need-returns-7
 unfolding effect
-returns-7 c = simp (c .quiet6 .ensures, c .before .tcheck .ensures, c .before .before .before .e7 .given .1)
+returns-7 c =
+    let f = c .before in
+    let e = f .before .before .before .before in
+    let s = e .before .before .before in
+    quieted _ _ _ _ (thread s .transaction) (s .args .mem .now) (c .quiet6 .ensures) (f .tcheck .ensures (s .args .gpr .now) (s .args .kgpr .now) (s .args .kcr .now) (s .args .ix .now) (s .args .vl .now)) ∙ done s _ (e .e7 .given .1)
 
 returns-8 : tie.Need-returns-8
-unfolding effect
-returns-8 c = simp (c .quiet7 .ensures, c .before .treclaim .ensures, c .before .before .before .e8 .given .1)
+unfolding effect rare
+returns-8 c =
+    let f = c .before in
+    let e = f .before .before .before .before .before .before .before .before .before in
+    let s = e .before .before .before in
+    quieted _ _ _ _ (thread s .transaction) (s .args .mem .now) (c .quiet7 .ensures) (f .by-value .ensures) ∙ done s _ (e .e8 .given .1)
 
 returns-9 : tie.Need-returns-9
-unfolding effect
-returns-9 c = simp (c .quiet8 .ensures, c .before .trechkpt .ensures, c .before .before .enum-told .given .1)
+unfolding effect rare
+returns-9 c =
+    let f = c .before in
+    let e = f .before .before .before .before .before .before .before .before in
+    let s = e .before .before .before in
+    quieted _ _ _ _ (thread s .transaction) (s .args .mem .now) (c .quiet8 .ensures) (f .by-value2 .ensures) ∙ done s _ (e .enum-told .given .1)
 
 returns-10 : tie.Need-returns-10
-unfolding effect
-returns-10 c = simp (c .quiet9 .ensures, c .before .mtspr .ensures, c .before .before .before .e9 .given .1)
+unfolding effect rare
+returns-10 c =
+    let f = c .before in
+    let e = f .before .before .before .before .before .before .before .before .before in
+    let s = e .before .before .before in
+    quieted _ _ _ _ (thread s .transaction) (s .args .mem .now) (c .quiet9 .ensures) (f .by-value3 .ensures) ∙ done s _ (e .e9 .given .1)
 
 returns-11 : tie.Need-returns-11
 unfolding effect
-returns-11 c = simp (c .quiet10 .ensures, c .before .mfspr .ensures, c .before .before .before .e10 .given .1)
+returns-11 c =
+    let f = c .before in
+    let e = f .before .before .before .before in
+    let s = e .before .before .before in
+    quieted _ _ _ _ (thread s .transaction) (s .args .mem .now) (c .quiet10 .ensures) (f .mfspr .ensures (s .args .cr .now) (s .args .kgpr .now) (s .args .kcr .now) (s .args .ix .now) (s .args .vl .now)) ∙ done s _ (e .e10 .given .1)
+
+same-length-2 : tie.Need-same-length-2
+same-length-2 c = search needs
 
 returns-12 : tie.Need-returns-12
 unfolding effect
-returns-12 c = simp (c .ld .ensures, c .before .before .e11 .given .1)
+returns-12 c =
+    let f = c in
+    let e = f .before .before .before .before .before .before .before .before .before .before in
+    let s = e .before .before .before in
+    f .ld .ensures ∙ done s _ (e .e11 .given .1)
+
+same-length-3 : tie.Need-same-length-3
+same-length-3 c = search needs
 
 returns-13 : tie.Need-returns-13
 unfolding effect
-returns-13 c = simp (c .std .ensures, c .before .gpr .ensures, c .before .before .before .e12 .given .1)
+returns-13 c =
+    let f = c .before .before in
+    let e = f .before .before .before .before .before .before .before .before .before .before .before in
+    let s = e .before .before .before in
+    f .std .ensures ∙ done s _ (e .e12 .given .1)
 
 returns-14 : tie.Need-returns-14
 unfolding effect
-returns-14 c = simp (c .quiet11 .ensures, c .before .addi .ensures, c .before .before .before .e13 .given .1)
+returns-14 c =
+    let f = c .before in
+    let e = f .before .before .before .before in
+    let s = e .before .before .before in
+    quieted _ _ _ _ (thread s .transaction) (s .args .mem .now) (c .quiet11 .ensures) (f .addi .ensures (s .args .cr .now) (s .args .kgpr .now) (s .args .kcr .now) (s .args .ix .now) (s .args .vl .now)) ∙ done s _ (e .e13 .given .1)
 
 returns-15 : tie.Need-returns-15
 unfolding effect
-returns-15 c = simp (c .quiet12 .ensures, c .before .disallowed .ensures, c .before .before .enum-told2 .given .1)
+returns-15 c =
+    let f = c .before in
+    let e = f .before .before .before .before .before .before in
+    let s = e .before .before .before in
+    quieted _ _ _ _ (thread s .transaction) (s .args .mem .now) (c .quiet12 .ensures) (f .disallowed .ensures (s .args .ix .now) (s .args .vl .now)) ∙ done s _ (e .enum-told2 .given .1)
 
 returns-16 : tie.Need-returns-16
 unfolding effect
-returns-16 c = simp (c .quiet13 .ensures, c .before .interrupt .ensures, c .before .before .enum-told3 .given .1)
+returns-16 c =
+    let f = c .before in
+    let e = f .before .before in
+    let s = e .before .before .before in
+    quieted _ _ _ _ (thread s .transaction) (s .args .mem .now) (c .quiet13 .ensures) (f .interrupt .ensures (s .args .gpr .now) (s .args .cr .now) (s .args .kgpr .now) (s .args .kcr .now) (s .args .ix .now) (s .args .vl .now)) ∙ done s _ (e .enum-told3 .given .1)
 
 returns-17 : tie.Need-returns-17
 unfolding effect
-returns-17 c = simp (c .quiet14 .ensures, c .before .host .ensures, c .before .before .before .e14 .given .1)
+returns-17 c =
+    let f = c .before in
+    let e = f .before .before .before in
+    let s = e .before .before .before in
+    quieted _ _ _ _ (thread s .transaction) (s .args .mem .now) (c .quiet14 .ensures) (f .host .ensures (s .args .gpr .now) (s .args .cr .now) (s .args .kgpr .now) (s .args .kcr .now) (s .args .ix .now) (s .args .vl .now)) ∙ done s _ (e .e14 .given .1)
 
 pub effect-spec : {M : Type 1} → statement M
 effect-spec =
@@ -280,13 +395,13 @@ effect-spec =
     tcheck-requires
     quiet-requires-6
     enum-known-e-8
-    treclaim-requires
+    by-value-requires
     quiet-requires-7
     enum-told
-    trechkpt-requires
+    by-value-requires-2
     quiet-requires-8
     enum-known-e-9
-    mtspr-requires
+    by-value-requires-3
     quiet-requires-9
     enum-known-e-10
     mfspr-requires
@@ -294,7 +409,9 @@ effect-spec =
     enum-known-e-11
     ld-requires
     enum-known-e-12
-    gpr-requires
+    cast-v
+    mul-v
+    element-copy-out-v
     std-requires
     enum-known-e-13
     addi-requires
@@ -309,6 +426,7 @@ effect-spec =
     host-requires
     quiet-requires-14
     returns
+    same-length
     returns-2
     returns-3
     returns-4
@@ -319,7 +437,9 @@ effect-spec =
     returns-9
     returns-10
     returns-11
+    same-length-2
     returns-12
+    same-length-3
     returns-13
     returns-14
     returns-15

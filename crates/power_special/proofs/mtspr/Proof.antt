@@ -4,8 +4,11 @@ use borrow.Author.Needs.{needs}
 use Rattle.power_special.proofs.mtspr.Statement.{statement}
 use Rattle.power_special.proofs.mtspr.Tie as tie
 
-gpr-requires : tie.Need-gpr-requires
-gpr-requires c κs = search needs
+mul-put-spr : tie.Need-mul-put-spr
+mul-put-spr c = search needs
+
+element-copy-out-put-spr : tie.Need-element-copy-out-put-spr
+element-copy-out-put-spr c = search needs
 
 put-spr-requires : tie.Need-put-spr-requires
 put-spr-requires c κs = search needs
@@ -15,7 +18,9 @@ passes-requires c κs = search needs
 
 returns : tie.Need-returns
 unfolding mtspr
-returns c = simp (c .passes .ensures, c .before .put-spr .ensures, c .before .before .gpr .ensures)
+returns c = simp (c .passes .ensures, c .before .put-spr .ensures)
 
 pub mtspr-spec : {M : Type 1} → statement M
-mtspr-spec = tie.close (tie.spec gpr-requires put-spr-requires passes-requires returns)
+mtspr-spec =
+    tie.close
+    (tie.spec mul-put-spr element-copy-out-put-spr put-spr-requires passes-requires returns)

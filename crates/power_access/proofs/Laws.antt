@@ -1,0 +1,41 @@
+-- Laws of loads and stores, as the code takes them.
+use mathlib.Core.Path.{_≡_, refl, ap}
+use mathlib.Core.Bool.{Bool, true, false, cond, _&&_, _||_, false≢true}
+use mathlib.Core.List.{List}
+use Prim.Native.Nat.{ℕ}
+use Rattle.transaction.specs.Transaction as transaction
+use Rattle.transaction.specs.declared.Cause.the-variants.{Footprint}
+use Rattle.transaction.specs.declared.Write.the-variants.{Unwritten}
+use Rattle.thread.specs.Thread.{with-transaction}
+use Rattle.thread.specs.declared.State.{State}
+use Rattle.thread.specs.declared.State.the-variants.{N, T, S}
+use Rattle.thread.specs.declared.Thread.{Thread}
+use Rattle.power_common.specs.Common.{quiet, passes, fails}
+use Rattle.power_access.specs.Access.{takes, joins, loads, ld, stores, logs}
+use Rattle.power_access.specs.Inner.{joining}
+
+module _ (t : Thread) (rt i : ℕ) (mem : List ℕ) where
+  -- a load that does not join the read set
+  pub ld-apart : (s : State) → joining s (t .control) ≡ false → ld s t rt i mem ≡ loads (takes t rt i mem) i
+  unfolding joining ld
+  ld-apart N p = refl
+  ld-apart T p = ap (λ (b : Bool). cond (b && transaction.load-overflows (t .transaction) i) (quiet (fails t Footprint)) (loads (takes (cond b (joins t i) t) rt i mem) i)) p
+  ld-apart S p = refl
+
+  -- a load that joins it
+  pub ld-joins : (s : State) → joining s (t .control) ≡ true
+      → ld s t rt i mem ≡ cond (transaction.crowded (t .transaction) (transaction.line i)) (quiet (fails t Footprint)) (loads (takes (joins t i) rt i mem) i)
+  unfolding joining ld
+  ld-joins N p = absurd (false≢true p)
+  ld-joins T p = ap (λ (b : Bool). cond (b && transaction.load-overflows (t .transaction) i) (quiet (fails t Footprint)) (loads (takes (cond b (joins t i) t) rt i mem) i)) p
+  ld-joins S p = absurd (false≢true p)
+
+module _ (t : Thread) (v i : ℕ) where
+  -- a store in T: no room for the line, none in the log, or room
+  pub logs-is : (a b : Bool) → transaction.crowded (t .transaction) (transaction.line i) ≡ a → transaction.full (t .transaction) (transaction.lookup (t .transaction) i) ≡ b
+      → logs t v i ≡ cond (a || b) (quiet (fails t Footprint)) (stores (passes (with-transaction t (transaction.store (t .transaction) i v))) i Unwritten)
+  unfolding logs
+  logs-is a b p q = λ j. cond (p j || q j) (quiet (fails t Footprint)) (stores (passes (with-transaction t (transaction.store (t .transaction) i v))) i Unwritten)
+
+  pub logs-crowded : transaction.crowded (t .transaction) (transaction.line i) ≡ true → logs t v i ≡ quiet (fails t Footprint)
+  logs-crowded p = logs-is true _ p refl

@@ -1,0 +1,110 @@
+// A machine laid into the rows of its threads, and lifted out of them.
+ghost use mathlib.Core.Path.{_≡_};
+ghost use mathlib.Core.Bool.{true};
+ghost use Prim.Native.Nat.{_<_};
+ghost use lib.ListN.{set};
+ghost use Rattle.base.specs.Limits.{most-threads};
+ghost use Rattle.machine.specs.Valid.{unused-zero};
+ghost use Rattle.rows.specs.Rows.{rows, threads-of, machine-of};
+ghost use Rattle.rows_lift.specs.Inner.{Clean};
+use base::CR_FIELDS;
+use base::GPRS;
+use base::PLACES;
+use base::THREADS;
+use machine::Machine;
+use rows::HEAD;
+use thread::Thread;
+
+// One thread into the rows.
+fn laid_at(
+    gpr: &mut [[u64; GPRS]; THREADS],
+    cr: &mut [[u8; CR_FIELDS]; THREADS],
+    kgpr: &mut [[u64; GPRS]; THREADS],
+    kcr: &mut [[u8; CR_FIELDS]; THREADS],
+    words: &mut [[u64; HEAD]; THREADS],
+    ix: &mut [[u32; PLACES]; THREADS],
+    vl: &mut [[u64; PLACES]; THREADS],
+    w: usize,
+    t: Thread,
+)
+    requires { ⌜ w < most-threads ⌝ }
+    requires { ⌜ unused-zero (t .transaction) ≡ true ⌝ }
+    ensures { λ _. ⌜ threads-of (rows (now (gpr .exit)) (now (cr .exit)) (now (kgpr .exit)) (now (kcr .exit)) (now (words .exit)) (now (ix .exit)) (now (vl .exit))) ≡ set (threads-of (rows (now (gpr .entry)) (now (cr .entry)) (now (kgpr .entry)) (now (kcr .entry)) (now (words .entry)) (now (ix .entry)) (now (vl .entry)))) w t ⌝ }
+{
+    rows::four_gprs(*gpr);
+    rows::four_crs(*cr);
+    rows::four_gprs(*kgpr);
+    rows::four_crs(*kcr);
+    rows::four_heads(*words);
+    rows::four_indices(*ix);
+    rows::four_values(*vl);
+    crate::laid(
+        &mut gpr[w],
+        &mut cr[w],
+        &mut kgpr[w],
+        &mut kcr[w],
+        &mut words[w],
+        &mut ix[w],
+        &mut vl[w],
+        t,
+    );
+}
+
+// The machine's threads into the rows.
+pub fn laid(
+    gpr: &mut [[u64; GPRS]; THREADS],
+    cr: &mut [[u8; CR_FIELDS]; THREADS],
+    kgpr: &mut [[u64; GPRS]; THREADS],
+    kcr: &mut [[u8; CR_FIELDS]; THREADS],
+    words: &mut [[u64; HEAD]; THREADS],
+    ix: &mut [[u32; PLACES]; THREADS],
+    vl: &mut [[u64; PLACES]; THREADS],
+    m: Machine,
+)
+    requires { ⌜ Clean (m .threads) ⌝ }
+    ensures { λ _. ⌜ threads-of (rows (now (gpr .exit)) (now (cr .exit)) (now (kgpr .exit)) (now (kcr .exit)) (now (words .exit)) (now (ix .exit)) (now (vl .exit))) ≡ m .threads ⌝ }
+{
+    for w in 0..THREADS {
+        let t = m.threads[w];
+        laid_at(
+            &mut *gpr,
+            &mut *cr,
+            &mut *kgpr,
+            &mut *kcr,
+            &mut *words,
+            &mut *ix,
+            &mut *vl,
+            w,
+            t,
+        );
+    }
+}
+
+// The machine of the rows.
+pub fn lifted(
+    gpr: &[[u64; GPRS]; THREADS],
+    cr: &[[u8; CR_FIELDS]; THREADS],
+    kgpr: &[[u64; GPRS]; THREADS],
+    kcr: &[[u8; CR_FIELDS]; THREADS],
+    words: &[[u64; HEAD]; THREADS],
+    ix: &[[u32; PLACES]; THREADS],
+    vl: &[[u64; PLACES]; THREADS],
+    m: Machine,
+) -> Machine
+    ensures { λ r. ⌜ r ≡ machine-of (m .count) (rows (now (gpr .entry)) (now (cr .entry)) (now (kgpr .entry)) (now (kcr .entry)) (now (words .entry)) (now (ix .entry)) (now (vl .entry))) ⌝ }
+{
+    let mut n = m;
+    for w in 0..THREADS {
+        let t = crate::lifted(
+            &gpr[w],
+            &cr[w],
+            &kgpr[w],
+            &kcr[w],
+            &words[w],
+            &ix[w],
+            &vl[w],
+        );
+        n.threads[w] = t;
+    }
+    n
+}
