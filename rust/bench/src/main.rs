@@ -73,8 +73,11 @@ fn time_tapes(tapes: &[Tape], setting: &Setting) -> Vec<String> {
 }
 
 fn explain(tapes: &[Tape]) {
-    println!("\nmedians over the rounds, by the clock; the last ratio is of the times on the");
-    println!("processor. After each pair of runs machines and memories were equal.");
+    println!(
+        "\nmedians over the rounds, by the clock, which other work on the computer stretches;"
+    );
+    println!("the last ratio is of the mean times on the processor. After each pair of runs");
+    println!("machines and memories were equal.");
     for tape in tapes {
         println!("{}: {}", tape.name, tape.about);
     }

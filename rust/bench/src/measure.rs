@@ -15,7 +15,7 @@ pub struct Rounds {
     pub proved: usize,
 }
 
-/// The medians of both sides.
+/// The typical times of both sides.
 pub struct Times {
     pub rust: Spent,
     pub proved: Spent,
@@ -75,8 +75,8 @@ fn in_turn<A: PartialEq + std::fmt::Debug>(
         }
     }
     Times {
-        rust: Spent::medians(&ours),
-        proved: Spent::medians(&theirs),
+        rust: Spent::typical(&ours),
+        proved: Spent::typical(&theirs),
     }
 }
 
