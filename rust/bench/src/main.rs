@@ -1,124 +1,106 @@
 //! Times the run of both sides over the same tapes: in one process, in turn,
-//! from the fresh machine, and holds their ends to be equal.
+//! from the fresh machine, and holds their ends to be equal. Ends with status
+//! 1 where the proved side takes more than three times as long.
 //!
-//! `cargo run --release -p bench -- [--records N] [--rounds R] [--proved-rounds P]`
+//! `cargo run --release -p bench -- [--records N] [--rounds R] [--proved-rounds P] [--limit X|none]`
+//! `cargo run --release -p bench -- growth [--records N] [--rounds R] [--proved-rounds P]`
 
+mod day;
+mod growth;
+mod measure;
 mod setting;
+mod sides;
 mod tapes;
 mod time;
 
-use std::hint::black_box;
-use std::time::Duration;
+use std::process::ExitCode;
 
-use compare::pair::to_raw;
-use model::machine::MAX_MEMORY;
-use model::Machine;
-use naszeptan::raw;
+use measure::{each, Times};
+use naszeptan::KINDS;
 use setting::Setting;
-use time::{Spent, Watch};
-
-/// A machine and memory after a run, and how the run ended.
-struct End<M> {
-    machine: M,
-    memory: Vec<u64>,
-    ended: (u8, usize),
-}
-
-fn run_model(tape: &[u8]) -> (Spent, End<Machine>) {
-    let mut machine = Machine::fresh();
-    let mut memory = vec![0; MAX_MEMORY];
-    let watch = Watch::start();
-    let ended = black_box(model::run(&mut machine, &mut memory, black_box(tape)));
-    let spent = watch.spent();
-    let end = End {
-        machine,
-        memory,
-        ended,
-    };
-    (spent, end)
-}
-
-fn run_proved(tape: &[u8]) -> (Spent, End<raw::Machine>) {
-    let fresh = raw::fresh();
-    let mut memory = vec![0; MAX_MEMORY];
-    let watch = Watch::start();
-    let run = black_box(raw::run(fresh, &mut memory, black_box(tape)));
-    let spent = watch.spent();
-    let end = End {
-        machine: run.machine,
-        memory,
-        ended: (run.answer, run.count),
-    };
-    (spent, end)
-}
-
-/// Holds the ends of both sides equal in everything.
-fn hold_equal(ours: &End<Machine>, theirs: &End<raw::Machine>) {
-    assert_eq!(ours.ended, theirs.ended, "answer and count");
-    assert_eq!(ours.memory, theirs.memory, "memory");
-    assert!(to_raw(&ours.machine) == theirs.machine, "machine");
-}
-
-/// Times both sides over one tape: the sides take turns, and the proved one
-/// has the first turn of every other round. Gives the medians, Rust's first.
-fn measure(tape: &[u8], setting: &Setting) -> (Spent, Spent) {
-    let (mut ours, mut theirs) = (Vec::new(), Vec::new());
-    for round in 0..setting.rounds.max(setting.proved_rounds) {
-        let proved_first = round % 2 == 1;
-        let mut ends = (None, None);
-        for turn in 0..2 {
-            if (turn == 0) == proved_first {
-                if round < setting.proved_rounds {
-                    let (spent, end) = run_proved(tape);
-                    theirs.push(spent);
-                    ends.1 = Some(end);
-                }
-            } else if round < setting.rounds {
-                let (spent, end) = run_model(tape);
-                ours.push(spent);
-                ends.0 = Some(end);
-            }
-        }
-        if let (Some(ours), Some(theirs)) = ends {
-            hold_equal(&ours, &theirs);
-        }
-    }
-    (Spent::medians(&ours), Spent::medians(&theirs))
-}
+use sides::Start;
+use tapes::Tape;
 
 /// One line of the table.
-fn line(name: &str, records: usize, rust: Spent, proved: Spent) -> String {
-    let ratio = |proved: Duration, rust: Duration| proved.as_secs_f64() / rust.as_secs_f64();
-    let each = |time: Duration| time.as_secs_f64() * 1e9 / records as f64;
-    let on_processor = match (proved.processor, rust.processor) {
-        (Some(proved), Some(rust)) => format!("{:.1}", ratio(proved, rust)),
-        _ => "not told".to_string(),
+fn line(name: &str, records: usize, times: &Times) -> String {
+    let (rust, proved) = (times.rust.clock, times.proved.clock);
+    let on_processor = match times.ratio_on_processor() {
+        Some(ratio) => format!("{ratio:.1}"),
+        None => "not told".to_string(),
     };
     format!(
-        "{name:20}{:>14.2}{:>14.2}{:>16.1}{:>14.1}{:>9.1}{on_processor:>16}",
-        proved.clock.as_secs_f64() * 1e3,
-        rust.clock.as_secs_f64() * 1e3,
-        each(proved.clock),
-        each(rust.clock),
-        ratio(proved.clock, rust.clock),
+        "{name:22}{:>12.2}{:>14.2}{:>16.1}{:>14.1}{:>9.1}{on_processor:>16}",
+        proved.as_secs_f64() * 1e3,
+        rust.as_secs_f64() * 1e3,
+        each(proved, records),
+        each(rust, records),
+        times.ratio(),
     )
 }
 
-fn main() -> Result<(), String> {
-    let setting = Setting::from_arguments(std::env::args().skip(1))?;
-    print!("{setting}");
+/// The share of each kind in a tape, five to a line.
+fn shares(tape: &[u8]) -> String {
+    let counts = tapes::kinds(tape);
+    let all: usize = counts.iter().sum();
+    let share = |(kind, count): (usize, &usize)| {
+        let share = *count as f64 * 100.0 / all as f64;
+        format!("{:10} {share:5.2} %", KINDS[kind].name)
+    };
+    let shares: Vec<String> = counts.iter().enumerate().map(share).collect();
+    let lines: Vec<String> = shares.chunks(5).map(|line| line.join("   ")).collect();
+    lines.join("\n")
+}
+
+/// Prints the table and gives what passes the limit, a line for each.
+fn time_tapes(tapes: &[Tape], setting: &Setting) -> Vec<String> {
     println!(
-        "\n{:20}{:>14}{:>14}{:>16}{:>14}{:>9}{:>16}",
+        "\n{:22}{:>12}{:>14}{:>16}{:>14}{:>9}{:>16}",
         "tape", "proved, ms", "Rust, ms", "proved, ns/rec", "Rust, ns/rec", "ratio", "on processor"
     );
-    for tape in tapes::all(setting.records) {
-        let (rust, proved) = measure(&tape.bytes, &setting);
-        println!("{}", line(tape.name, setting.records, rust, proved));
+    let mut past = Vec::new();
+    for tape in tapes {
+        let times = measure::tape(&Start::fresh(), &tape.bytes, setting.rounds);
+        println!("{}", line(tape.name, setting.records, &times));
+        let ratio = times.ratio();
+        if let Some(limit) = setting.limit.filter(|&limit| ratio > limit) {
+            let name = tape.name;
+            past.push(format!(
+                "bench: {name}: the ratio {ratio:.2} passes {limit}"
+            ));
+        }
     }
-    println!("\nmedians over the rounds, by the clock; the last ratio is of the times on the");
-    println!("processor. After each pair of runs machines and memories were equal.");
-    for tape in tapes::all(0) {
+    past
+}
+
+fn explain(tapes: &[Tape]) {
+    println!(
+        "\nmedians over the rounds, by the clock, which other work on the computer stretches;"
+    );
+    println!("the last ratio is of the mean times on the processor. After each pair of runs");
+    println!("machines and memories were equal.");
+    for tape in tapes {
         println!("{}: {}", tape.name, tape.about);
     }
-    Ok(())
+    for day in tapes.iter().filter(|tape| tape.name == tapes::DAY) {
+        println!("\nits kinds:\n{}", shares(&day.bytes));
+    }
+}
+
+fn main() -> Result<ExitCode, String> {
+    let setting = Setting::from_arguments(std::env::args().skip(1))?;
+    print!("{setting}");
+    if setting.growth {
+        growth::print(&setting);
+        return Ok(ExitCode::SUCCESS);
+    }
+    let tapes = tapes::all(setting.records);
+    let past = time_tapes(&tapes, &setting);
+    explain(&tapes);
+    for line in &past {
+        eprintln!("{line}");
+    }
+    Ok(match past.is_empty() {
+        true => ExitCode::SUCCESS,
+        false => ExitCode::FAILURE,
+    })
 }

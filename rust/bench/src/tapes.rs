@@ -1,10 +1,12 @@
-//! The three tapes. Each is for the fresh machine, has just the records asked
+//! The four tapes. Each is for the fresh machine, has just the records asked
 //! for, and every record is done.
 
+use crate::day;
 use model::gen;
 use model::machine::{LINE, LOG, MAX_MEMORY, THREADS};
 use model::tape::{encode, RECORD};
 use model::Event;
+use naszeptan::KINDS;
 
 /// A tape, its name and what it does.
 pub struct Tape {
@@ -16,8 +18,13 @@ pub struct Tape {
     pub bytes: Vec<u8>,
 }
 
-/// All three.
-pub fn all(records: usize) -> [Tape; 3] {
+/// The name of the tape that has every kind.
+pub const DAY: &str = "a lock library's day";
+/// The seed of the day that is timed.
+const SEED: u64 = 1;
+
+/// All four.
+pub fn all(records: usize) -> [Tape; 4] {
     [
         Tape {
             name: "short transactions",
@@ -27,13 +34,18 @@ pub fn all(records: usize) -> [Tape; 3] {
         Tape {
             name: "full logs",
             about: "the threads in turn: tbegin., 64 stores, tend.",
-            bytes: repeated(records, full_log),
+            bytes: repeated(records, THREADS, full_log),
         },
         Tape {
             name: "one line",
             about:
                 "the threads in turn on one line: tbegin., ld, std; each load fails the last thread",
-            bytes: repeated(records, conflict),
+            bytes: repeated(records, THREADS, conflict),
+        },
+        Tape {
+            name: DAY,
+            about: "events of all kinds by four programs that elide eight locks, and take them where that fails",
+            bytes: day::tape(records, SEED),
         },
     ]
 }
@@ -51,8 +63,17 @@ fn filled(mut tape: Vec<u8>, records: usize) -> Vec<u8> {
     tape
 }
 
-/// As many whole turns as fit, the nth by thread n modulo 4.
-fn repeated(records: usize, turn: fn(usize) -> Vec<Event>) -> Vec<u8> {
+/// How often each kind occurs, kind 1 first.
+pub fn kinds(tape: &[u8]) -> [usize; KINDS.len()] {
+    let mut counts = [0; KINDS.len()];
+    for record in tape.chunks(RECORD) {
+        counts[usize::from(record[1]) - 1] += 1;
+    }
+    counts
+}
+
+/// As many whole turns as fit, the nth by thread n modulo the thread count.
+pub fn repeated(records: usize, threads: usize, turn: impl Fn(usize) -> Vec<Event>) -> Vec<u8> {
     let mut tape = Vec::with_capacity(records * RECORD);
     for n in 0.. {
         let events = turn(n);
@@ -60,7 +81,7 @@ fn repeated(records: usize, turn: fn(usize) -> Vec<Event>) -> Vec<u8> {
             break;
         }
         for e in events {
-            tape.extend(encode((n % THREADS) as u8, e));
+            tape.extend(encode((n % threads) as u8, e));
         }
     }
     filled(tape, records)
@@ -68,7 +89,7 @@ fn repeated(records: usize, turn: fn(usize) -> Vec<Event>) -> Vec<u8> {
 
 /// A transaction that fills its log and commits it: four lines, which move on
 /// through the thread's quarter of memory.
-fn full_log(n: usize) -> Vec<Event> {
+pub fn full_log(n: usize) -> Vec<Event> {
     let quarter = MAX_MEMORY / THREADS;
     let first = n / THREADS * LOG % quarter;
     let stores = (0..LOG).map(|place| Event::Std {
@@ -110,7 +131,7 @@ mod tests {
 
     #[test]
     fn full_logs_are_full() {
-        let tape = all(65).into_iter().nth(1).expect("three tapes");
+        let tape = all(65).into_iter().nth(1).expect("four tapes");
         let begun: Vec<u8> = full_log(0)[..65]
             .iter()
             .flat_map(|&e| encode(0, e))

@@ -3,8 +3,8 @@
 
 use std::time::{Duration, Instant};
 
-/// The least time on the processor that is told: the system counts it in
-/// ticks of some milliseconds.
+/// The least time on the processor that is told, of all rounds together: the
+/// system counts it in ticks of some milliseconds.
 const LEAST: Duration = Duration::from_millis(50);
 
 /// A running watch.
@@ -27,8 +27,7 @@ impl Watch {
         let clock = self.clock.elapsed();
         let processor = self
             .processor
-            .and_then(|start| on_processor()?.checked_sub(start))
-            .filter(|&time| time >= LEAST);
+            .and_then(|start| on_processor()?.checked_sub(start));
         Spent { clock, processor }
     }
 }
@@ -41,7 +40,7 @@ fn on_processor() -> Option<Duration> {
     Some(Duration::from_nanos(nanos))
 }
 
-/// The time of one run, or the medians of many.
+/// The time of one run, or what stands for many.
 #[derive(Clone, Copy)]
 pub struct Spent {
     /// By the clock.
@@ -51,12 +50,16 @@ pub struct Spent {
 }
 
 impl Spent {
-    /// The medians of some runs, of which there is one at least.
-    pub fn medians(runs: &[Spent]) -> Spent {
-        let processor: Option<Vec<Duration>> = runs.iter().map(|run| run.processor).collect();
+    /// What stands for some runs, of which there is one at least: the median
+    /// by the clock, and the mean on the processor, for the ticks of one run
+    /// may be too coarse.
+    pub fn typical(runs: &[Spent]) -> Spent {
+        let processor: Option<Duration> = runs.iter().map(|run| run.processor).sum();
         Spent {
             clock: median(runs.iter().map(|run| run.clock).collect()),
-            processor: processor.map(median),
+            processor: processor
+                .filter(|&all| all >= LEAST)
+                .map(|all| all / runs.len() as u32),
         }
     }
 }
