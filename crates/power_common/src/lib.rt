@@ -1,42 +1,18 @@
-// What the events share: the next address, CR0 from state, registers, the thread's own failure.
+// What the events share: the next address, the state's bits, a cause recorded for a thread by value. What they do in place: `place`.
 pub mod place;
 
 ghost use mathlib.Core.Path.{_≡_};
 ghost use Prim.Native.Nat.{_<_};
-ghost use Rattle.base.specs.Limits.{gprs};
-ghost use Rattle.power_common.specs.Common.{doing, quiet, next, advance, passes, ts-field, cr0-from-state, gpr, gpr-or-0, put-gpr, abort-cause, own-recording, fails, dooms, cr0-only, leveled};
+ghost use Rattle.power_common.specs.Common.{next, advance, passes, ts-field, own-recording};
 use base::answer;
-use thread::Effect;
 use thread::State;
 use thread::Thread;
 use transaction::Cause;
-use transaction::Touch;
-use transaction::Write;
 
 // The answer, 0, 20 or 21, and the thread afterwards.
 pub struct Did {
     pub answer: u8,
     pub thread: Thread,
-}
-
-// The effect of an event that touches or writes.
-pub fn doing(d: Did, touch: Touch, write: Write) -> Effect
-    ensures { λ r. ⌜ r ≡ doing d touch write ⌝ }
-{
-    let thread = d.thread;
-    Effect {
-        answer: d.answer,
-        thread,
-        touch,
-        write,
-    }
-}
-
-// The effect of an event that does neither.
-pub fn quiet(d: Did) -> Effect
-    ensures { λ r. ⌜ r ≡ quiet d ⌝ }
-{
-    doing(d, Touch::Untouched, Write::Unwritten)
 }
 
 // The address after.
@@ -80,112 +56,10 @@ pub fn passes(t: Thread) -> Did
     }
 }
 
-pub fn cr0_from_state(t: Thread) -> Thread
-    ensures { λ r. ⌜ r ≡ cr0-from-state t ⌝ }
-{
-    let k = t.control;
-    let m = k.msr;
-    let s = m.state;
-    let mut u = t;
-    u.cr0 = ts_field(s);
-    u
-}
-
-// CR0 from state, and on.
-pub fn cr0_only(t: Thread) -> Did
-    ensures { λ r. ⌜ r ≡ cr0-only t ⌝ }
-{
-    let u = cr0_from_state(t);
-    passes(u)
-}
-
-// The same with TEXASR anew.
-pub fn leveled(t: Thread, x: u64) -> Did
-    ensures { λ r. ⌜ r ≡ leveled t x ⌝ }
-{
-    let mut k = t.control;
-    let mut f = k.failure;
-    f.texasr = x;
-    k.failure = f;
-    let mut u = t;
-    u.control = k;
-    cr0_only(u)
-}
-
-// General register r.
-pub fn gpr(t: Thread, r: u8) -> u64
-    requires { ⌜ r < gprs ⌝ }
-    ensures { λ v. ⌜ v ≡ gpr t r ⌝ }
-{
-    let live = t.live;
-    live.gpr[r as usize]
-}
-
-// Register RA, or 0 where RA = 0 names none.
-pub fn gpr_or_0(t: Thread, ra: u8) -> u64
-    requires { ⌜ ra < gprs ⌝ }
-    ensures { λ v. ⌜ v ≡ gpr-or-0 t ra ⌝ }
-{
-    if ra == 0 {
-        return 0;
-    }
-    gpr(t, ra)
-}
-
-pub fn put_gpr(t: Thread, r: u8, v: u64) -> Thread
-    requires { ⌜ r < gprs ⌝ }
-    ensures { λ u. ⌜ u ≡ put-gpr t r v ⌝ }
-{
-    let mut live = t.live;
-    live.gpr[r as usize] = v;
-    let mut u = t;
-    u.live = live;
-    u
-}
-
-// The cause by RA: the low byte of the register as code.
-pub fn abort_cause(t: Thread, ra: u8) -> Cause
-    requires { ⌜ ra < gprs ⌝ }
-    ensures { λ r. ⌜ r ≡ abort-cause t ra ⌝ }
-{
-    Cause::Abort((gpr_or_0(t, ra) % 256) as u8)
-}
-
 // A cause recorded for the thread's own instruction.
 pub fn own_recording(t: Thread, cause: Cause) -> Thread
     ensures { λ r. ⌜ r ≡ own-recording t cause ⌝ }
 {
     let k = t.control;
     thread::recording(t, cause, true, k.nia)
-}
-
-// The thread's own failure in T: recorded, and handled in the same event.
-pub fn fails(t: Thread, cause: Cause) -> Did
-    ensures { λ r. ⌜ r ≡ fails t cause ⌝ }
-{
-    let u = own_recording(t, cause);
-    let v = thread::handling(u);
-    Did {
-        answer: answer::HANDLED,
-        thread: v,
-    }
-}
-
-// The thread's own failure in S: recorded, and handled only at tresume; 21 only if this event recorded it.
-pub fn dooms(t: Thread, cause: Cause) -> Did
-    ensures { λ r. ⌜ r ≡ dooms t cause ⌝ }
-{
-    let k = t.control;
-    let u = own_recording(t, cause);
-    let v = advance(u);
-    if thread::failed(k) {
-        return Did {
-            answer: answer::DONE,
-            thread: v,
-        };
-    }
-    Did {
-        answer: answer::RECORDED,
-        thread: v,
-    }
 }

@@ -17,6 +17,7 @@ use Rattle.tape.specs.Tape.{record-size, read}
 use Rattle.tape.specs.declared.Read.{Read}
 use Rattle.tape.specs.declared.Read.the-variants.{Record, Refused}
 use Rattle.laws_keeping.proofs.Keeping.{keeps}
+use Rattle.run.specs.Inner.{filled}
 use Rattle.run.specs.Run.{Result, result, in-front, goes-on, record-at, reads, counted, one, play, tape-number, run}
 
 -- an event that the run goes on after is counted, another is not
@@ -47,10 +48,6 @@ part-is tape k =
     let a : k * record-size + record-size - k * record-size ≡ record-size = omega arith in
     let b : k * record-size ≡ record-size * k = omega arith in
     λ j. take (a j) (drop (b j) tape)
-
--- the answers of a run put into a buffer from place k on
-abbrev pub filled : List ℕ → ℕ → Result → Result
-filled old k r = record { ended = r .ended; memory = r .memory; answers = sets old k (r .answers) }
 
 -- the end of the tape, and one turn before it
 module _ (tape : List ℕ) (k : ℕ) (m : Machine) (mem : List ℕ) where

@@ -1,14 +1,22 @@
 // A tape run on a machine, record by record (rules R1 to R4).
 ghost use mathlib.Core.Path.{_≡_};
 ghost use mathlib.Core.Bool.{true};
+ghost use mathlib.Core.List.{[], _∷_};
 ghost use Prim.Native.Nat.{_%_, _/_, _<_, _^_};
 ghost use lib.ListN.{length, set};
 ghost use lib.Seq.{sets};
 ghost use Rattle.machine.specs.Valid.{valid};
 ghost use Rattle.tape.specs.Tape.{record-size, read};
-ghost use Rattle.run.specs.Run.{goes-on, reads, one, play, run};
+ghost use Rattle.rows.specs.Rows.{rows, machine-of};
+ghost use Rattle.run.specs.Inner.{filled};
+ghost use Rattle.run.specs.Run.{result, goes-on, reads, one, play, run};
+use base::CR_FIELDS;
+use base::GPRS;
+use base::PLACES;
+use base::THREADS;
 use base::answer;
 use machine::Machine;
+use rows::HEAD;
 use tape::RECORD_SIZE;
 use tape::Read;
 
@@ -32,34 +40,59 @@ fn goes_on(answer: u8) -> bool
     answer == answer::RECORDED
 }
 
+// The answer that ended a run, and how many records were done.
+struct Stopped {
+    answer: u8,
+    count: usize,
+}
+
 // One record read and done behind k others: a record that stops the run is not counted.
-fn one(m: Machine, mem: &mut [u64], bytes: &[u8], k: usize) -> Ended
-    requires { ⌜ valid m (length (now mem)) ≡ true ⌝ }
+fn one(
+    gpr: &mut [[u64; GPRS]; THREADS],
+    cr: &mut [[u8; CR_FIELDS]; THREADS],
+    kgpr: &mut [[u64; GPRS]; THREADS],
+    kcr: &mut [[u8; CR_FIELDS]; THREADS],
+    words: &mut [[u64; HEAD]; THREADS],
+    ix: &mut [[u32; PLACES]; THREADS],
+    vl: &mut [[u64; PLACES]; THREADS],
+    mem: &mut [u64],
+    threads: usize,
+    bytes: &[u8],
+    k: usize,
+) -> Stopped
+    requires { ⌜ valid (machine-of threads (rows (now gpr) (now cr) (now kgpr) (now kcr) (now words) (now ix) (now vl))) (length (now mem)) ≡ true ⌝ }
     requires { ⌜ k < 2 ^ 63 ⌝ }
-    ensures { λ r. ⌜ r ≡ one (read (now (bytes .entry))) m (now (mem .entry)) k .ended ⌝ }
-    ensures { λ r. ⌜ now (mem .exit) ≡ one (read (now (bytes .entry))) m (now (mem .entry)) k .memory ⌝ }
+    ensures { λ r. ⌜ result (r .answer) (r .count) (machine-of threads (rows (now (gpr .exit)) (now (cr .exit)) (now (kgpr .exit)) (now (kcr .exit)) (now (words .exit)) (now (ix .exit)) (now (vl .exit)))) (now (mem .exit)) (r .answer ∷ []) ≡ one (read (now (bytes .entry))) (machine-of threads (rows (now (gpr .entry)) (now (cr .entry)) (now (kgpr .entry)) (now (kcr .entry)) (now (words .entry)) (now (ix .entry)) (now (vl .entry)))) (now (mem .entry)) k ⌝ }
 {
     let found = tape::reader::read(bytes);
     let Read::Record { thread, event } = found else {
-        return Ended {
+        return Stopped {
             answer: tape::number(found),
             count: k,
-            machine: m,
         };
     };
-    let done = step::step_valid(m, mem, thread, event);
-    let next = done.machine;
-    if goes_on(done.answer) {
-        return Ended {
-            answer: done.answer,
+    let a = step::place::step(
+        &mut *gpr,
+        &mut *cr,
+        &mut *kgpr,
+        &mut *kcr,
+        &mut *words,
+        &mut *ix,
+        &mut *vl,
+        &mut *mem,
+        threads,
+        thread,
+        event,
+    );
+    if goes_on(a) {
+        return Stopped {
+            answer: a,
             count: k + 1,
-            machine: next,
         };
     }
-    Ended {
-        answer: done.answer,
+    Stopped {
+        answer: a,
         count: k,
-        machine: next,
     }
 }
 
@@ -72,32 +105,95 @@ pub fn put(buffer: &mut [u8], k: usize, byte: u8)
     }
 }
 
-// The records of a tape on a machine that is valid: it stays so, and is not tested again.
-fn records(m: Machine, mem: &mut [u64], tape: &[u8], answers: &mut [u8]) -> Ended
+// The records of a tape on rows whose machine is valid: it stays so, and is not tested again.
+fn records(
+    gpr: &mut [[u64; GPRS]; THREADS],
+    cr: &mut [[u8; CR_FIELDS]; THREADS],
+    kgpr: &mut [[u64; GPRS]; THREADS],
+    kcr: &mut [[u8; CR_FIELDS]; THREADS],
+    words: &mut [[u64; HEAD]; THREADS],
+    ix: &mut [[u32; PLACES]; THREADS],
+    vl: &mut [[u64; PLACES]; THREADS],
+    mem: &mut [u64],
+    threads: usize,
+    tape: &[u8],
+    answers: &mut [u8],
+) -> Stopped
+    requires { ⌜ valid (machine-of threads (rows (now gpr) (now cr) (now kgpr) (now kcr) (now words) (now ix) (now vl))) (length (now mem)) ≡ true ⌝ }
+    ensures { λ r. ⌜ result (r .answer) (r .count) (machine-of threads (rows (now (gpr .exit)) (now (cr .exit)) (now (kgpr .exit)) (now (kcr .exit)) (now (words .exit)) (now (ix .exit)) (now (vl .exit)))) (now (mem .exit)) (now (answers .exit)) ≡ filled (now (answers .entry)) 0 (play (reads (now (tape .entry)) 0 (length (now (tape .entry)) / record-size)) 0 (machine-of threads (rows (now (gpr .entry)) (now (cr .entry)) (now (kgpr .entry)) (now (kcr .entry)) (now (words .entry)) (now (ix .entry)) (now (vl .entry)))) (now (mem .entry))) ⌝ }
+{
+    let n = tape.len() / RECORD_SIZE;
+    let mut k: usize = 0;
+    while k < n {
+        let at = k * RECORD_SIZE;
+        let end = at + RECORD_SIZE;
+        let r = one(
+            &mut *gpr,
+            &mut *cr,
+            &mut *kgpr,
+            &mut *kcr,
+            &mut *words,
+            &mut *ix,
+            &mut *vl,
+            &mut *mem,
+            threads,
+            &tape[at..end],
+            k,
+        );
+        put(answers, k, r.answer);
+        if r.count == k {
+            return r;
+        }
+        k += 1;
+    }
+    Stopped {
+        answer: answer::DONE,
+        count: n,
+    }
+}
+
+// The tape on a machine that is valid: laid into rows, run there, and lifted out.
+fn run_valid(m: Machine, mem: &mut [u64], tape: &[u8], answers: &mut [u8]) -> Ended
     requires { ⌜ valid m (length (now mem)) ≡ true ⌝ }
     ensures { λ r. ⌜ r ≡ play (reads (now (tape .entry)) 0 (length (now (tape .entry)) / record-size)) 0 m (now (mem .entry)) .ended ⌝ }
     ensures { λ r. ⌜ now (mem .exit) ≡ play (reads (now (tape .entry)) 0 (length (now (tape .entry)) / record-size)) 0 m (now (mem .entry)) .memory ⌝ }
     ensures { λ r. ⌜ now (answers .exit) ≡ sets (now (answers .entry)) 0 (play (reads (now (tape .entry)) 0 (length (now (tape .entry)) / record-size)) 0 m (now (mem .entry)) .answers) ⌝ }
 {
-    let n = tape.len() / RECORD_SIZE;
-    let mut machine = m;
-    let mut k: usize = 0;
-    while k < n {
-        let at = k * RECORD_SIZE;
-        let end = at + RECORD_SIZE;
-        let e = one(machine, mem, &tape[at..end], k);
-        put(answers, k, e.answer);
-        if e.count == k {
-            return e;
-        }
-        let next = e.machine;
-        machine = next;
-        k += 1;
-    }
+    let mut gpr = [[0u64; GPRS]; THREADS];
+    let mut cr = [[0u8; CR_FIELDS]; THREADS];
+    let mut kgpr = [[0u64; GPRS]; THREADS];
+    let mut kcr = [[0u8; CR_FIELDS]; THREADS];
+    let mut words = [[0u64; HEAD]; THREADS];
+    let mut ix = [[0u32; PLACES]; THREADS];
+    let mut vl = [[0u64; PLACES]; THREADS];
+    rows_lift::machines::laid(
+        &mut gpr,
+        &mut cr,
+        &mut kgpr,
+        &mut kcr,
+        &mut words,
+        &mut ix,
+        &mut vl,
+        m,
+    );
+    let s = records(
+        &mut gpr,
+        &mut cr,
+        &mut kgpr,
+        &mut kcr,
+        &mut words,
+        &mut ix,
+        &mut vl,
+        mem,
+        m.count,
+        tape,
+        answers,
+    );
+    let n = rows_lift::machines::lifted(&gpr, &cr, &kgpr, &kcr, &words, &ix, &vl, m);
     Ended {
-        answer: answer::DONE,
-        count: n,
-        machine,
+        answer: s.answer,
+        count: s.count,
+        machine: n,
     }
 }
 
@@ -123,5 +219,5 @@ pub fn run(m: Machine, mem: &mut [u64], tape: &[u8], answers: &mut [u8]) -> Ende
             machine: m,
         };
     }
-    records(m, mem, tape, answers)
+    run_valid(m, mem, tape, answers)
 }

@@ -1,8 +1,9 @@
-// One thread: live registers and checkpoint, control registers, transaction; recording and handling of a failure (rules M4 to M7, X1 to X6, F1 to F9).
+// One thread: live registers and checkpoint, control registers, transaction; recording of a failure (rules M4 to M7, X1 to X6, F1 to F5).
+// On rows that are lent a failure is recorded and handled in `power_common::place`.
 ghost use mathlib.Core.Path.{_≡_};
 ghost use Prim.Native.Nat.{_<_, _^_};
 ghost use Rattle.thread.specs.Texasr.{rot, tl, packed, cause-bits};
-ghost use Rattle.thread.specs.Thread.{in-state, take-checkpoint, restore, failed, suspended, noted, recording, handling, is-live, other-recording, felled};
+ghost use Rattle.thread.specs.Thread.{in-state, take-checkpoint, restore, failed, suspended, noted, recording};
 use base::CR_FIELDS;
 use base::GPRS;
 use transaction::Cause;
@@ -217,54 +218,4 @@ pub fn recording(t: Thread, cause: Cause, exact: bool, at: u64) -> Thread
     u.control = control;
     u.transaction = transaction;
     u
-}
-
-// A failure handled: the checkpoint put back, CR0 = 0b1010, on at TFHAR in N.
-pub fn handling(t: Thread) -> Thread
-    ensures { λ r. ⌜ r ≡ handling t ⌝ }
-{
-    let k = t.control;
-    let f = k.failure;
-    let mut control = in_state(k, State::N, false);
-    control.nia = f.tfhar;
-    let mut u = restore(t);
-    u.control = control;
-    u.cr0 = 0b1010;
-    u
-}
-
-// A cause recorded by another thread's event, at the failing thread's own NIA.
-fn other_recording(t: Thread, cause: Cause) -> Thread
-    ensures { λ r. ⌜ r ≡ other-recording t cause ⌝ }
-{
-    let k = t.control;
-    recording(t, cause, false, k.nia)
-}
-
-// The transaction is live: in T, and in S until it is doomed.
-pub fn is_live(s: State, doomed: bool) -> bool
-    ensures { λ r. ⌜ r ≡ is-live s doomed ⌝ }
-{
-    match s {
-        State::N => false,
-        State::T => true,
-        State::S => !doomed,
-    }
-}
-
-// A live transaction that another thread's event fails: in T it is handled too, in S it waits for tresume.
-pub fn felled(t: Thread, cause: Cause) -> Thread
-    ensures { λ r. ⌜ r ≡ felled (t .control .msr .state) t cause ⌝ }
-{
-    let k = t.control;
-    let m = k.msr;
-    let s = m.state;
-    match s {
-        State::N => t,
-        State::T => {
-            let u = other_recording(t, cause);
-            handling(u)
-        }
-        State::S => other_recording(t, cause),
-    }
 }

@@ -1,13 +1,21 @@
--- `run::one` meets its contract: by what the reader answers, and whether the run goes on.
+-- `run::one` meets its contract.
 use mathlib.Core.Path.{sym, ap, _∙_}
+use mathlib.Core.List.{[], _∷_}
 use Prim.Native.Nat.{_+_}
-use Rattle.step.specs.Step.{step}
-use Rattle.step.specs.declared.Done.{Done}
-use Rattle.run.specs.Run.{goes-on, one}
+use Rattle.machine.specs.declared.Machine.{Machine}
+use Rattle.rows.specs.Rows.{rows, machine-of}
+use Rattle.tape.specs.Tape.{number}
+use Rattle.tape.specs.declared.Read.{Read}
+use Rattle.step.specs.Step.{Outcome, step}
+use Rattle.run.specs.Run.{result, goes-on, one}
 use Rattle.run.proofs.Laws.{is-counted, not-counted}
 use borrow.Author.Needs.{needs}
 use Rattle.run.proofs.one.Statement.{statement}
 use Rattle.run.proofs.one.Tie as tie
+
+-- the machine at the start
+abbrev machine-at : (c : tie.Start) → Machine
+machine-at c = machine-of (c .args .threads) (rows (c .args .gpr .now) (c .args .cr .now) (c .args .kgpr .now) (c .args .kcr .now) (c .args .words .now) (c .args .ix .now) (c .args .vl .now))
 
 read-requires : tie.Need-read-requires
 read-requires c κs = search needs
@@ -24,18 +32,21 @@ number-requires c κs = search needs
 returns : tie.Need-returns
 unfolding one
 returns c =
-    let r = c .before .before .before in
-    let p = sym (r .read .ensures) ∙ c .before .enum-told .given .1 in
-    (simp (c .number .ensures, c .before .enum-told .given .1, p), simp p)
+    let e = c .before in
+    let r = e .before .before in
+    let s = r .before .before .before in
+    let q = c .number .ensures ∙ ap number (e .enum-told .given .1) in
+    (λ j. result (q j) (s .args .k) (machine-at s) (s .args .mem .now) (q j ∷ []))
+    ∙ sym (ap (λ (x : Read). one x (machine-at s) (s .args .mem .now) (s .args .k)) (sym (r .read .ensures) ∙ e .enum-told .given .1))
 
-step-valid-requires : tie.Need-step-valid-requires
-step-valid-requires c κs = search needs
+step-requires : tie.Need-step-requires
+step-requires c κs = search needs
 
 goes-on-requires : tie.Need-goes-on-requires
 goes-on-requires c κs = search needs
 
-add-t14 : tie.Need-add-t14
-add-t14 c = search needs
+add-t27 : tie.Need-add-t27
+add-t27 c = search needs
 
 same-length : tie.Need-same-length
 same-length c = search needs
@@ -43,15 +54,14 @@ same-length c = search needs
 returns-2 : tie.Need-returns-2
 unfolding one
 returns-2 c =
-    let v = c .before .before .before .before .before in
-    let f = v .before .before .before in
+    let t = c .before .before .before .before in
+    let f = t .before .before .before .before .before .before .before .before .before .before in
     let r = f .before .before in
-    let a = r .before .before .before .args in
-    let o = step (a .m) (a .mem .now) (f .found .given .0 .0) (f .found .given .0 .1 .0) in
-    let d = v .step-valid .ensures in
-    let g = ap (λ (x : Done). goes-on (x .answer)) (sym (d .0)) ∙ sym (c .before .goes-on .ensures) ∙ c .if1 .taken in
-    let whole = ap (λ x. one x (a .m) (a .mem .now) (a .k)) (sym (r .read .ensures) ∙ f .found .given .1) ∙ is-counted o (a .k) g in
-    ((λ j. record { answer = d .0 j .answer; count = a .k + 1; machine = d .0 j .machine }) ∙ sym (ap (λ x. x .ended) whole), d .1 ∙ sym (ap (λ x. x .memory) whole))
+    let s = r .before .before .before in
+    let o = step (machine-at s) (s .args .mem .now) (f .found .given .0 .0) (f .found .given .0 .1 .0) in
+    let g = ap (λ (x : Outcome). goes-on (x .done .answer)) (sym (t .step .ensures)) ∙ sym (c .before .goes-on .ensures) ∙ c .if1 .taken in
+    ap (λ (x : Outcome). result (x .done .answer) (s .args .k + 1) (x .done .machine) (x .memory) (x .done .answer ∷ [])) (t .step .ensures)
+    ∙ sym (ap (λ (x : Read). one x (machine-at s) (s .args .mem .now) (s .args .k)) (sym (r .read .ensures) ∙ f .found .given .1) ∙ is-counted o (s .args .k) g)
 
 same-length-2 : tie.Need-same-length-2
 same-length-2 c = search needs
@@ -59,15 +69,14 @@ same-length-2 c = search needs
 returns-3 : tie.Need-returns-3
 unfolding one
 returns-3 c =
-    let v = c .before .before .before .before .before in
-    let f = v .before .before .before in
+    let t = c .before .before .before .before in
+    let f = t .before .before .before .before .before .before .before .before .before .before in
     let r = f .before .before in
-    let a = r .before .before .before .args in
-    let o = step (a .m) (a .mem .now) (f .found .given .0 .0) (f .found .given .0 .1 .0) in
-    let d = v .step-valid .ensures in
-    let g = ap (λ (x : Done). goes-on (x .answer)) (sym (d .0)) ∙ sym (c .before .goes-on .ensures) ∙ c .if1 .left in
-    let whole = ap (λ x. one x (a .m) (a .mem .now) (a .k)) (sym (r .read .ensures) ∙ f .found .given .1) ∙ not-counted o (a .k) g in
-    ((λ j. record { answer = d .0 j .answer; count = a .k; machine = d .0 j .machine }) ∙ sym (ap (λ x. x .ended) whole), d .1 ∙ sym (ap (λ x. x .memory) whole))
+    let s = r .before .before .before in
+    let o = step (machine-at s) (s .args .mem .now) (f .found .given .0 .0) (f .found .given .0 .1 .0) in
+    let g = ap (λ (x : Outcome). goes-on (x .done .answer)) (sym (t .step .ensures)) ∙ sym (c .before .goes-on .ensures) ∙ c .if1 .left in
+    ap (λ (x : Outcome). result (x .done .answer) (s .args .k) (x .done .machine) (x .memory) (x .done .answer ∷ [])) (t .step .ensures)
+    ∙ sym (ap (λ (x : Read). one x (machine-at s) (s .args .mem .now) (s .args .k)) (sym (r .read .ensures) ∙ f .found .given .1) ∙ not-counted o (s .args .k) g)
 
 pub one-spec : {M : Type 1} → statement M
 one-spec =
@@ -78,9 +87,9 @@ one-spec =
     enum-told
     number-requires
     returns
-    step-valid-requires
+    step-requires
     goes-on-requires
-    add-t14
+    add-t27
     same-length
     returns-2
     same-length-2

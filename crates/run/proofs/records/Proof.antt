@@ -1,7 +1,7 @@
 -- `run::records` meets its contract: the run from the start, its answers in the buffer, is the run with what is left from here, its answers in the buffer from place k on; and the machine is valid here.
 use mathlib.Core.Path.{_≡_, refl, sym, ap, _∙_}
 use mathlib.Core.Bool.{true}
-use mathlib.Core.List.{List}
+use mathlib.Core.List.{List, [], _∷_}
 use Prim.Native.Nat.{ℕ, _+_, _-_, _/_, _^_, _≤_, _<_}
 use native.Mathlib.Omega.{arith}
 use borrow.Author.Needs.{needs}
@@ -9,68 +9,85 @@ use borrow.Author.Tests.{eq-eqb, ne-eqb}
 use lib.Dec.{eqb}
 use lib.ListN.{length, set}
 use Rattle.machine.specs.Valid.{valid}
+use Rattle.machine.specs.declared.Machine.{Machine}
+use Rattle.rows.specs.Rows.{rows, machine-of}
 use Rattle.tape.specs.Tape.{read}
-use Rattle.run.specs.Run.{Result, record-at, reads, one, play}
-use Rattle.run.specs.declared.Ended.{Ended}
-use Rattle.run.proofs.Laws.{part-is, filled, play-none, fills-stops, fills-goes, one-keeps}
+use Rattle.run.specs.Inner.{filled}
+use Rattle.run.specs.Run.{Result, result, record-at, reads, one, play}
+use Rattle.run.proofs.Laws.{part-is, play-none, fills-stops, fills-goes, one-keeps}
 use Rattle.run.proofs.records.Statement.{statement}
 use Rattle.run.proofs.records.Tie as tie
 
 abbrev Inv-loop : tie.InvT-loop
-Inv-loop mem₀ tape answers₀ n machine₀ k₀ mem answers machine k =
+Inv-loop gpr₀ cr₀ kgpr₀ kcr₀ words₀ ix₀ vl₀ mem₀ threads tape answers₀ n k₀ gpr cr kgpr kcr words ix vl mem answers k =
     (k ≤ n)
-    × ((length mem ≡ length mem₀) × (valid machine (length mem) ≡ true))
+    × ((length mem ≡ length mem₀) × (valid (machine-of threads (rows gpr cr kgpr kcr words ix vl)) (length mem) ≡ true))
     × (length answers ≡ length answers₀)
-    × (filled answers₀ 0 (play (reads tape 0 n) 0 machine₀ mem₀) ≡ filled answers k (play (reads tape k (n - k)) k machine mem))
+    × (filled answers₀ 0 (play (reads tape 0 n) 0 (machine-of threads (rows gpr₀ cr₀ kgpr₀ kcr₀ words₀ ix₀ vl₀)) mem₀)
+    ≡ filled answers k (play (reads tape k (n - k)) k (machine-of threads (rows gpr cr kgpr kcr words ix vl)) mem))
 
 abbrev μ-loop : tie.MeasureT-loop
-μ-loop mem₀ tape answers₀ n machine₀ k₀ mem answers machine k = n - k
+μ-loop gpr₀ cr₀ kgpr₀ kcr₀ words₀ ix₀ vl₀ mem₀ threads tape answers₀ n k₀ gpr cr kgpr kcr words ix vl mem answers k = n - k
 
 abbrev start : tie.At-loop Inv-loop μ-loop → tie.Start Inv-loop μ-loop
 start l = l .before .before .before .before
 
 abbrev head : tie.After-one Inv-loop μ-loop → tie.At-loop Inv-loop μ-loop
-head o = o .before .before .before .before
+head o = o .before .before .before .before .before .before .before .before .before .before .before
 
 abbrev done : tie.After-put Inv-loop μ-loop → tie.After-one Inv-loop μ-loop
 done p = p .before .before .before .before
 
+-- a record is left
+within : (o : tie.After-one Inv-loop μ-loop) → head o .loop .k < length (start (head o) .args .tape .now) / 16
+within o = o .before .before .before .before .before .before .before .before .before .before .loop-test .taken
+
 -- a tape's length is far below the numbers' end
 small : (c : tie.After-shared-slice-known Inv-loop μ-loop) → length (c .before .before .args .tape .now) < 2 ^ 63
-small c = omega (arith, c .before .before .good .1 .1 .0 .1)
+small c = omega (arith, c .before .before .good .1 .1 .1 .1 .1 .1 .1 .1 .1 .0 .1)
+
+-- the machine at the loop's head, and behind one record
+abbrev machine-at : (c : tie.At-loop Inv-loop μ-loop) → Machine
+machine-at c = machine-of (start c .args .threads) (rows (c .loop .gpr) (c .loop .cr) (c .loop .kgpr) (c .loop .kcr) (c .loop .words) (c .loop .ix) (c .loop .vl))
+
+abbrev machine-behind : (c : tie.After-one Inv-loop μ-loop) → Machine
+machine-behind c = machine-of (start (head c) .args .threads) (rows (c .one .last .0) (c .one .last .1 .0) (c .one .last .1 .1 .0) (c .one .last .1 .1 .1 .0) (c .one .last .1 .1 .1 .1 .0) (c .one .last .1 .1 .1 .1 .1 .0) (c .one .last .1 .1 .1 .1 .1 .1 .0))
+
+abbrev memory-behind : (c : tie.After-one Inv-loop μ-loop) → List ℕ
+memory-behind c = c .one .last .1 .1 .1 .1 .1 .1 .1 .0
 
 -- the record that the definition takes here
 abbrev turn : tie.At-loop Inv-loop μ-loop → Result
-turn l = one (read (record-at (start l .args .tape .now) (l .loop .k))) (l .loop .machine) (l .loop .mem) (l .loop .k)
+turn l = one (read (record-at (start l .args .tape .now) (l .loop .k))) (machine-at l) (l .loop .mem) (l .loop .k)
 
 -- is the one that is taken
-turned : (o : tie.After-one Inv-loop μ-loop) → (o .one .result ≡ turn (head o) .ended) × (o .one .last .1 .0 ≡ turn (head o) .memory)
+turned : (o : tie.After-one Inv-loop μ-loop)
+    → result (o .one .result .answer) (o .one .result .count) (machine-behind o) (memory-behind o) (o .one .result .answer ∷ []) ≡ turn (head o)
 turned o =
     let l = head o in
-    let p = part-is (start l .args .tape .now) (l .loop .k) in (
-      o .one .ensures .0 ∙ ap (λ (b : List ℕ). one (read b) (l .loop .machine) (l .loop .mem) (l .loop .k) .ended) p,
-      o .one .ensures .1 ∙ ap (λ (b : List ℕ). one (read b) (l .loop .machine) (l .loop .mem) (l .loop .k) .memory) p,
-    )
+    o .one .ensures ∙ ap (λ (b : List ℕ). one (read b) (machine-at l) (l .loop .mem) (l .loop .k)) (part-is (start l .args .tape .now) (l .loop .k))
 
 -- its answer is put at its place
 answered : (p : tie.After-put Inv-loop μ-loop) → p .put .last .0 ≡ set (head (done p) .loop .answers) (head (done p) .loop .k) (turn (head (done p)) .ended .answer)
 answered p =
-    p .put .ensures ∙ ap (λ (e : Ended). set (head (done p) .loop .answers) (head (done p) .loop .k) (e .answer)) (turned (done p) .0)
+    p .put .ensures ∙ ap (λ (x : Result). set (head (done p) .loop .answers) (head (done p) .loop .k) (x .ended .answer)) (turned (done p))
 
 -- memory keeps its length, and the machine is valid behind it
 kept : (o : tie.After-one Inv-loop μ-loop)
-    → (length (o .one .last .1 .0) ≡ length (head o .loop .mem)) × (valid (o .one .result .machine) (length (o .one .last .1 .0)) ≡ true)
+    → (length (memory-behind o) ≡ length (head o .loop .mem)) × (valid (machine-behind o) (length (memory-behind o)) ≡ true)
 kept o =
     let l = head o in
     let t = turned o in
-    let h = one-keeps (read (record-at (start l .args .tape .now) (l .loop .k))) (l .loop .machine) (l .loop .mem) (l .loop .k) (l .loop .inv .1 .1) in
-    (ap length (t .1) ∙ h .0, (λ j. valid (t .0 j .machine) (length (t .1 j))) ∙ h .1)
+    let h = one-keeps (read (record-at (start l .args .tape .now) (l .loop .k))) (machine-at l) (l .loop .mem) (l .loop .k) (l .loop .inv .1 .1) in
+    (ap (λ (x : Result). length (x .memory)) t ∙ h .0, (λ j. valid (t j .ended .machine) (length (t j .memory))) ∙ h .1)
 
 loop-holds : tie.Need-loop-holds Inv-loop μ-loop
 loop-holds c =
-    let s = c .before .before .before .args in
-    let e : length (s .tape .now) / 16 ≡ length (s .tape .now) / 16 - 0 = omega arith in
-    (omega arith, (refl, c .before .before .before .pre), refl, (λ j. filled (s .answers .now) 0 (play (reads (s .tape .now) 0 (e j)) 0 (s .m) (s .mem .now))))
+    let s = c .before .before .before in
+    let a = s .args in
+    let m = machine-of (a .threads) (rows (a .gpr .now) (a .cr .now) (a .kgpr .now) (a .kcr .now) (a .words .now) (a .ix .now) (a .vl .now)) in
+    let e : length (a .tape .now) / 16 ≡ length (a .tape .now) / 16 - 0 = omega arith in
+    (omega arith, (refl, s .pre), refl, (λ j. filled (a .answers .now) 0 (play (reads (a .tape .now) 0 (e j)) 0 m (a .mem .now))))
 
 mul-at : tie.Need-mul-at Inv-loop μ-loop
 mul-at c = omega (arith, small (c .before .before .before))
@@ -88,7 +105,9 @@ part-one-end : tie.Need-part-one-end Inv-loop μ-loop
 part-one-end c = omega arith
 
 one-requires : tie.Need-one-requires Inv-loop μ-loop
-one-requires c κs = (c .before .before .before .loop .inv .1 .1, omega (arith, small (c .before .before .before .before .before)))
+one-requires c κs =
+    let l = c .before .before .before .before .before .before .before .before .before .before in
+    (l .loop .inv .1 .1, omega (arith, small (l .before .before), c .before .before .before .before .before .before .before .before .before .loop-test .taken, l .loop .inv .0))
 
 put-requires : tie.Need-put-requires Inv-loop μ-loop
 put-requires c κs = search needs
@@ -109,30 +128,37 @@ returns c =
     let o = done p in
     let l = head o in
     let t = turned o in
-    let w = l .loop .inv .3 ∙ fills-stops (start l .args .tape .now) (l .loop .k) (l .loop .machine) (l .loop .mem) (l .loop .answers) _ (omega arith) (ap (λ (e : Ended). eqb (e .count) (l .loop .k)) (sym (t .0)) ∙ eq-eqb _ _ (c .if1 .taken)) in
-    (t .0 ∙ sym (ap (λ x. x .ended) w), (t .1 ∙ sym (ap (λ x. x .memory) w), answered p ∙ sym (ap (λ x. x .answers) w)))
+    let s = start l .args in
+    (λ j. result (t j .ended .answer) (t j .ended .count) (t j .ended .machine) (t j .memory) (answered p j))
+    ∙ sym
+    (l .loop .inv .3
+    ∙ fills-stops (s .tape .now) (l .loop .k) (machine-at l) (l .loop .mem) (l .loop .answers) _ (omega (arith, within o))
+    (ap (λ (x : Result). eqb (x .ended .count) (l .loop .k)) (sym t) ∙ eq-eqb _ _ (c .if1 .taken)))
 
 add-k : tie.Need-add-k Inv-loop μ-loop
-add-k c = search needs
+add-k c =
+    let o = done (c .before .before .before .before) in
+    omega (arith, within o, small (head o .before .before))
 
 loop-less : tie.Need-loop-less Inv-loop μ-loop
 loop-less c = search needs
 
 loop-again : tie.Need-loop-again Inv-loop μ-loop
 loop-again c =
-    let p = c .before .before .before .before .before in
+    let p = c .before .before .before .before in
     let o = done p in
     let l = head o in
     let s = start l .args in
     let t = turned o in
     let n = length (s .tape .now) / 16 in
     let k = l .loop .k in
-    let w = fills-goes (s .tape .now) k (l .loop .machine) (l .loop .mem) (l .loop .answers) (n - k) (omega arith) (ap (λ (e : Ended). eqb (e .count) k) (sym (t .0)) ∙ ne-eqb _ _ (c .before .if1 .left)) in
+    let h = within o in
+    let w = fills-goes (s .tape .now) k (machine-at l) (l .loop .mem) (l .loop .answers) (n - k) (omega (arith, h)) (ap (λ (x : Result). eqb (x .ended .count) k) (sym t) ∙ ne-eqb _ _ (c .if1 .left)) in
     let e : n - k - 1 ≡ n - (k + 1) = omega arith in (
-      omega arith,
+      omega (arith, h),
       (kept o .0 ∙ l .loop .inv .1 .0, kept o .1),
       p .put .kept .0 ∙ l .loop .inv .2,
-      l .loop .inv .3 ∙ w ∙ (λ j. filled (sym (answered p) j) (k + 1) (play (reads (s .tape .now) (k + 1) (e j)) (k + 1) (sym (t .0) j .machine) (sym (t .1) j))),
+      l .loop .inv .3 ∙ w ∙ (λ j. filled (sym (answered p) j) (k + 1) (play (reads (s .tape .now) (k + 1) (e j)) (k + 1) (sym t j .ended .machine) (sym t j .memory))),
     )
 
 same-length-3 : tie.Need-same-length-3 Inv-loop μ-loop
@@ -146,10 +172,8 @@ returns-2 c =
     let l = c .before in
     let s = start l .args in
     let e : l .loop .k ≡ length (s .tape .now) / 16 = omega arith in
-    let w = l .loop .inv .3 ∙ ap (filled (l .loop .answers) (l .loop .k)) (play-none (s .tape .now) (l .loop .k) (l .loop .machine) (l .loop .mem) _ (omega arith)) in (
-      (λ j. record { answer = 0; count = sym e j; machine = l .loop .machine }) ∙ sym (ap (λ x. x .ended) w),
-      (sym (ap (λ x. x .memory) w), sym (ap (λ x. x .answers) w)),
-    )
+    (λ j. result 0 (sym e j) (machine-at l) (l .loop .mem) (l .loop .answers))
+    ∙ sym (l .loop .inv .3 ∙ ap (filled (l .loop .answers) (l .loop .k)) (play-none (s .tape .now) (l .loop .k) (machine-at l) (l .loop .mem) _ (omega arith)))
 
 pub records-spec : {M : Type 1} → statement M
 records-spec =

@@ -35,8 +35,8 @@ returns-2 c =
     let w = run-refused (s .m) (s .mem .now) (s .tape .now) 6 (simp (sym (n .number .ensures) ∙ c .before .if1 .left, ne-eqb _ _ (c .if2 .taken))) refl in
     (sym (ap (λ x. x .ended) w), (sym (ap (λ x. x .memory) w), sym (ap (λ x. sets (s .answers .now) 0 (x .answers)) w)))
 
-records-requires : tie.Need-records-requires
-records-requires c κs = passed (c .before .before .before)
+run-valid-requires : tie.Need-run-valid-requires
+run-valid-requires c κs = passed (c .before .before .before)
 
 same-length : tie.Need-same-length
 same-length c = search needs
@@ -50,7 +50,7 @@ returns-3 c =
     let f = r .before .before .before in
     let s = start (f .before .before) .args in
     let w = run-plays (s .m) (s .mem .now) (s .tape .now) (passed (f .before)) (eq-eqb _ _ (f .if2 .left)) in
-    let e = r .records .ensures in
+    let e = r .run-valid .ensures in
     (e .0 ∙ sym (ap (λ x. x .ended) w), (e .1 .0 ∙ sym (ap (λ x. x .memory) w), e .1 .1 ∙ sym (ap (λ x. sets (s .answers .now) 0 (x .answers)) w)))
 
 pub run-spec : {M : Type 1} → statement M
@@ -60,7 +60,7 @@ run-spec =
     number-requires
     returns
     returns-2
-    records-requires
+    run-valid-requires
     same-length
     same-length-2
     returns-3)
