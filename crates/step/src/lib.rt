@@ -1,13 +1,18 @@
 // One event: refused by a number with nothing changed, or done on its own thread, on the others and on memory.
+pub mod place;
+
 ghost use mathlib.Core.Path.{_≡_};
 ghost use mathlib.Core.Bool.{true};
-ghost use Prim.Native.Nat.{_<_};
 ghost use lib.ListN.{length};
-ghost use Rattle.event.specs.Event.{operands-right};
 ghost use Rattle.machine.specs.Valid.{valid};
-ghost use Rattle.step.specs.Step.{perform, step};
+ghost use Rattle.step.specs.Step.{step};
+use base::CR_FIELDS;
+use base::GPRS;
+use base::PLACES;
+use base::THREADS;
 use event::Event;
 use machine::Machine;
+use rows::HEAD;
 
 // A step's answer and the machine after it.
 pub struct Done {
@@ -15,45 +20,44 @@ pub struct Done {
     pub machine: Machine,
 }
 
-// An event that is not refused: what it does is decided, then applied.
-fn perform(m: Machine, mem: &mut [u64], w: usize, e: Event) -> Done
-    requires { ⌜ valid m (length (now mem)) ≡ true ⌝ }
-    requires { ⌜ w < m .count ⌝ }
-    requires { ⌜ operands-right e (length (now mem)) ≡ true ⌝ }
-    ensures { λ r. ⌜ r ≡ perform m (now (mem .entry)) w e .done ⌝ }
-    ensures { λ r. ⌜ now (mem .exit) ≡ perform m (now (mem .entry)) w e .memory ⌝ }
-{
-    let t = m.threads[w];
-    let f = power_effect::effect(e, t, &mem[..]);
-    let touch = f.touch;
-    let mut n = conflict::others(touch, m, w);
-    let u = f.thread;
-    n.threads[w] = u;
-    let x = t.transaction;
-    let write = f.write;
-    transaction::written(write, x, mem);
-    Done {
-        answer: f.answer,
-        machine: n,
-    }
-}
-
-// The step on a machine that is known to be valid: a run's machine stays so.
-pub fn step_valid(m: Machine, mem: &mut [u64], thread: u8, e: Event) -> Done
+// The step on a valid machine, which is laid into rows and lifted out of them.
+fn step_valid(m: Machine, mem: &mut [u64], thread: u8, e: Event) -> Done
     requires { ⌜ valid m (length (now mem)) ≡ true ⌝ }
     ensures { λ r. ⌜ r ≡ step m (now (mem .entry)) thread e .done ⌝ }
     ensures { λ r. ⌜ now (mem .exit) ≡ step m (now (mem .entry)) thread e .memory ⌝ }
 {
-    let len = mem.len();
-    let w = thread as usize;
-    let number = refusal::refused_later(m, len, w, e);
-    if number != 0 {
-        return Done {
-            answer: number,
-            machine: m,
-        };
-    }
-    perform(m, mem, w, e)
+    let mut gpr = [[0u64; GPRS]; THREADS];
+    let mut cr = [[0u8; CR_FIELDS]; THREADS];
+    let mut kgpr = [[0u64; GPRS]; THREADS];
+    let mut kcr = [[0u8; CR_FIELDS]; THREADS];
+    let mut words = [[0u64; HEAD]; THREADS];
+    let mut ix = [[0u32; PLACES]; THREADS];
+    let mut vl = [[0u64; PLACES]; THREADS];
+    rows_lift::machines::laid(
+        &mut gpr,
+        &mut cr,
+        &mut kgpr,
+        &mut kcr,
+        &mut words,
+        &mut ix,
+        &mut vl,
+        m,
+    );
+    let answer = place::step(
+        &mut gpr,
+        &mut cr,
+        &mut kgpr,
+        &mut kcr,
+        &mut words,
+        &mut ix,
+        &mut vl,
+        mem,
+        m.count,
+        thread,
+        e,
+    );
+    let machine = rows_lift::machines::lifted(&gpr, &cr, &kgpr, &kcr, &words, &ix, &vl, m);
+    Done { answer, machine }
 }
 
 // The public entry: any machine, memory, thread and event may be handed in.

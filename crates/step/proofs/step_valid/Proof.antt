@@ -1,47 +1,58 @@
 -- `step::step_valid` meets its contract.
-use borrow.Author.Tests.{ne-eqb}
-use mathlib.Core.Path.{sym, ap, _∙_}
-use Rattle.machine.proofs.Validity.{valid-count}
-use Rattle.refusal.proofs.Laws.{passed-thread, passed-operands, refusal-valid}
-use Rattle.step.proofs.Laws.{step-refused, step-passed}
+use Prim.Native.Nat.{ℕ}
 use lib.ListN.{length}
+use mathlib.Core.List.{List}
+use mathlib.Core.Path.{_≡_, ap, _∙_}
+use Rattle.machine.specs.Valid.{valid}
+use Rattle.machine.specs.declared.Machine.{Machine}
+use Rattle.rows.specs.Rows.{Rows, rows, machine-of}
+use Rattle.rows_lift.proofs.Threads.{clean}
+use Rattle.step.specs.Step.{Outcome, outcome, step}
 use borrow.Author.Needs.{needs}
 use Rattle.step.proofs.step_valid.Statement.{statement}
 use Rattle.step.proofs.step_valid.Tie as tie
 
-refused-later-requires : tie.Need-refused-later-requires
-refused-later-requires c κs = valid-count _ _ (c .before .pre)
+-- the rows when the machine is laid into them, and behind the step
+abbrev rows-at : (c : tie.After-laid) → Rows
+rows-at c = rows (c .laid .last .0) (c .laid .last .1 .0) (c .laid .last .1 .1 .0) (c .laid .last .1 .1 .1 .0) (c .laid .last .1 .1 .1 .1 .0) (c .laid .last .1 .1 .1 .1 .1 .0) (c .laid .last .1 .1 .1 .1 .1 .1 .0)
 
-returns : tie.Need-returns
-returns c =
-    let r = c .before in
-    let s = r .before .before in
-    let a = s .args in
-    let o = step-refused (a .m) (a .mem .now) (a .thread) (a .e) (r .refused-later .result) (refusal-valid _ _ _ _ (s .pre) ∙ sym (r .refused-later .ensures)) (ne-eqb _ _ (c .if1 .taken)) in
-    (sym (ap (λ x. x .done) o), sym (ap (λ x. x .memory) o))
+abbrev rows-behind : (c : tie.After-step) → Rows
+rows-behind c = rows (c .step .last .0) (c .step .last .1 .0) (c .step .last .1 .1 .0) (c .step .last .1 .1 .1 .0) (c .step .last .1 .1 .1 .1 .0) (c .step .last .1 .1 .1 .1 .1 .0) (c .step .last .1 .1 .1 .1 .1 .1 .0)
 
-perform-requires : tie.Need-perform-requires
-perform-requires c κs =
-    let r = c .before .before in
-    let s = r .before .before in
-    let a = s .args in
-    let z = sym (r .refused-later .ensures) ∙ c .before .if1 .left in
-    let l = length (a .mem .now) in
-    (s .pre, (passed-thread (a .m) l (a .thread) (a .e) z, passed-operands (a .m) l (a .thread) (a .e) z))
+-- the machine of the rows is the one handed in
+same : (c : tie.After-laid) → let m = c .before .before .before .before .before .before .before .before .before .args .m in machine-of (m .count) (rows-at c) ≡ m
+same c = let m = c .before .before .before .before .before .before .before .before .before .args .m in λ j. record { count = m .count; threads = c .laid .ensures j }
+
+-- what the step leaves
+left : (c : tie.After-step) → let s = c .before .before .before .before .before .before .before .before .before .before .before .before .before .before .before .before .before .before in
+    outcome (c .step .result) (machine-of (s .args .m .count) (rows-behind c)) (c .step .last .1 .1 .1 .1 .1 .1 .1 .0) ≡ step (s .args .m) (s .args .mem .now) (s .args .thread) (s .args .e)
+left c =
+    let l = c .before .before .before .before .before .before .before .before .before in
+    let s = l .before .before .before .before .before .before .before .before .before in
+    c .step .ensures ∙ ap (λ (m : Machine). step m (s .args .mem .now) (s .args .thread) (s .args .e)) (same l)
+
+laid-requires : tie.Need-laid-requires
+laid-requires c κs =
+    let s = c .before .before .before .before .before .before .before .before in
+    clean (s .args .m) (length (s .args .mem .now)) (s .pre)
+
+step-requires : tie.Need-step-requires
+step-requires c κs =
+    let l = c .before .before .before .before .before .before .before .before in
+    let s = l .before .before .before .before .before .before .before .before .before in
+    ap (λ (m : Machine). valid m (length (s .args .mem .now))) (same l) ∙ s .pre
+
+lifted-requires : tie.Need-lifted-requires
+lifted-requires c κs = search needs
 
 same-length : tie.Need-same-length
 same-length c = search needs
 
-returns-2 : tie.Need-returns-2
-returns-2 c =
-    let p = c .before .before in
-    let r = p .before .before .before in
-    let s = r .before .before in
-    let a = s .args in
-    let z = refusal-valid _ _ (a .thread) (a .e) (s .pre) ∙ sym (r .refused-later .ensures) ∙ p .before .before .if1 .left in
-    let o = step-passed (a .m) (a .mem .now) (a .thread) (a .e) z in
-    (p .perform .ensures .0 ∙ sym (ap (λ x. x .done) o), p .perform .ensures .1 ∙ sym (ap (λ x. x .memory) o))
+returns : tie.Need-returns
+returns c =
+    let r = c .before .before .before .before .before .before .before .before .before .before in
+    ((λ j. record { answer = r .step .result; machine = c .lifted .ensures j }) ∙ ap (λ (x : Outcome). x .done) (left r), ap (λ (x : Outcome). x .memory) (left r))
 
 pub step-valid-spec : {M : Type 1} → statement M
 step-valid-spec =
-    tie.close (tie.spec refused-later-requires returns perform-requires same-length returns-2)
+    tie.close (tie.spec laid-requires step-requires lifted-requires same-length returns)
