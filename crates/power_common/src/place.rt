@@ -1,4 +1,4 @@
-// The same in place: functions on a thread's head, and on the rows that are lent. Each contract holds whatever stands in the rows that are not.
+// What the events share, in place: on a thread's head, and on the rows that are lent. Each contract holds whatever stands in the rows that are not.
 ghost use mathlib.Core.Path.{_≡_};
 ghost use mathlib.Core.List.{List};
 ghost use Prim.Native.Nat.{ℕ, _<_};
