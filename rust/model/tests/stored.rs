@@ -207,10 +207,7 @@ fn tapes_agree() {
 #[test]
 fn tapes_for_the_reader_are_those_of_the_tests() {
     let tapes = crates().join("../tapes");
-    for (tape, name) in [
-        ("pair", "test_tape_pair"),
-        ("every_kind", "naszeptan"),
-    ] {
+    for (tape, name) in [("pair", "test_tape_pair"), ("every_kind", "naszeptan")] {
         let shown = fs::read(tapes.join(format!("{tape}.tape"))).expect("the tape");
         let tested = fs::read(crates().join(name).join("stdin")).unwrap_or_default();
         assert_eq!(shown, tested, "{tape}");
