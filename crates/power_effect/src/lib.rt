@@ -91,26 +91,14 @@ pub fn effect(
         Event::Tbegin { r } => quiet(power_begins::tbegin(gpr, cr, kgpr, kcr, words, r)),
         Event::Tend { a } => power_begins::tend(words, &*ix, &*vl, mem, a),
         Event::Tabort { ra } => quiet(tabort(gpr, cr, &*kgpr, &*kcr, words, ra)),
-        Event::Tabortwc { to, ra, rb } => quiet(tabortwc(
-            gpr,
-            cr,
-            &*kgpr,
-            &*kcr,
-            words,
-            to,
-            ra,
-            rb,
-        )),
-        Event::Tabortdc { to, ra, rb } => quiet(tabortdc(
-            gpr,
-            cr,
-            &*kgpr,
-            &*kcr,
-            words,
-            to,
-            ra,
-            rb,
-        )),
+        Event::Tabortwc { to, ra, rb } => {
+            let answer = tabortwc(gpr, cr, &*kgpr, &*kcr, words, to, ra, rb);
+            quiet(answer)
+        }
+        Event::Tabortdc { to, ra, rb } => {
+            let answer = tabortdc(gpr, cr, &*kgpr, &*kcr, words, to, ra, rb);
+            quiet(answer)
+        }
         Event::Tsr { l } => quiet(power_begins::tsr(gpr, cr, &*kgpr, &*kcr, words, l)),
         Event::Tcheck { bf } => quiet(power_reclaims::tcheck(cr, words, bf)),
         Event::Treclaim { ra } => {
@@ -124,18 +112,7 @@ pub fn effect(
         }
         Event::Mfspr { rt, spr } => quiet(power_special::mfspr(gpr, words, rt, spr)),
         Event::Ld { rt, index } => {
-            power_access::ld(
-                gpr,
-                cr,
-                &*kgpr,
-                &*kcr,
-                words,
-                &*ix,
-                &*vl,
-                &mem[..],
-                rt,
-                index,
-            )
+            power_access::ld(gpr, cr, &*kgpr, &*kcr, words, &*ix, &*vl, &*mem, rt, index)
         }
         Event::Std { ra, index } => {
             let v = gpr[ra as usize];
