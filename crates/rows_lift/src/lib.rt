@@ -69,12 +69,11 @@ pub fn lifted(
         count: h.count,
         log,
     };
-    let a = *gpr;
-    let b = *cr;
-    let c = *kgpr;
-    let d = *kcr;
-    let live = Registers { gpr: a, cr: b };
-    let checkpoint = Registers { gpr: c, cr: d };
+    let live = Registers { gpr: *gpr, cr: *cr };
+    let checkpoint = Registers {
+        gpr: *kgpr,
+        cr: *kcr,
+    };
     Thread {
         live,
         cr0: h.cr0,
