@@ -64,7 +64,7 @@ fn one(
     requires { ⌜ k < 2 ^ 63 ⌝ }
     ensures { λ r. ⌜ result (r .answer) (r .count) (machine-of threads (rows (now (gpr .exit)) (now (cr .exit)) (now (kgpr .exit)) (now (kcr .exit)) (now (words .exit)) (now (ix .exit)) (now (vl .exit)))) (now (mem .exit)) (r .answer ∷ []) ≡ one (read (now (bytes .entry))) (machine-of threads (rows (now (gpr .entry)) (now (cr .entry)) (now (kgpr .entry)) (now (kcr .entry)) (now (words .entry)) (now (ix .entry)) (now (vl .entry)))) (now (mem .entry)) k ⌝ }
 {
-    let found = tape::reader::read(bytes);
+    let found = tape::reader::read_in_run(bytes);
     let Read::Record { thread, event } = found else {
         return Stopped {
             answer: tape::number(found),

@@ -1,6 +1,6 @@
 -- What the reader's tests tell: its first two, and its match on the kind; and bytes laid over a buffer's start.
 use mathlib.Core.Path.{_≡_, _∙_}
-use mathlib.Core.Bool.{Bool, _&&_}
+use mathlib.Core.Bool.{Bool, true, _&&_}
 use mathlib.Core.List.{List, _++_}
 use Prim.Native.Nat.{ℕ, _+_, _<_, _≤_}
 use native.Mathlib.Omega.{arith}
@@ -25,6 +25,11 @@ pub kind-in : (f : Fields) (zero : Bool) (r : Read) → r ≡ judged f (zero && 
     → 1 ≤ f .kind → f .kind ≤ length rows → r ≡ of-kind f zero
 unfolding kind-right of-kind
 kind-in f zero r p lo hi = p ∙ simp (le-leb 1 (f .kind) lo, le-leb (f .kind) (length rows) hi)
+
+pub kind-is : (k : ℕ) (f : Fields) (zero : Bool) (r : Read) → kind-right k ≡ true → f .kind ≡ k
+    → r ≡ judged f (zero && unused-clear (row k) f) → r ≡ of-kind f zero
+unfolding of-kind
+kind-is k f zero r h e p = p ∙ simp (e, h)
 
 pub low : (f : Fields) (zero : Bool) → f .kind < 1 → Refused 8 ≡ of-kind f zero
 unfolding kind-right of-kind

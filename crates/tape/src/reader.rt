@@ -2,11 +2,13 @@
 ghost use mathlib.Core.Path.{_≡_};
 ghost use mathlib.Core.Bool.{_&&_};
 ghost use lib.ListN.{length};
+ghost use Rattle.event.specs.Event.{event-of};
 ghost use Rattle.tape.specs.Tape.{record-size, two, four, fields-at, fixed-zero, unused-clear, judged, of-kind, read};
 use crate::FIRST_BYTE;
 use crate::RECORD_SIZE;
 use crate::Read;
 use base::answer;
+use event::Event;
 use event::Fields;
 use event::rows;
 use event::rows::Row;
@@ -65,11 +67,11 @@ fn unused_clear(r: Row, f: Fields) -> bool
 }
 
 // The thread and the event of a record that is 0 where its row wants it, else number 9.
-fn judged(f: Fields, zero: bool, r: Row) -> Read
+fn judged(f: Fields, zero: bool, r: Row, event: Event) -> Read
+    requires { ⌜ event ≡ event-of f ⌝ }
     ensures { λ a. ⌜ a ≡ judged f (zero && unused-clear r f) ⌝ }
 {
     if zero & unused_clear(r, f) {
-        let event = event::event_of(f);
         return Read::Record {
             thread: f.thread,
             event,
@@ -84,8 +86,28 @@ pub fn of_kind(f: Fields, zero: bool) -> Read
 {
     let kind = f.kind;
     match kind {
-        1..=17 => judged(f, zero, event::row(kind)),
+        1..=17 => judged(f, zero, event::row(kind), event::event_of(f)),
         _ => Read::Refused(answer::NO_KIND),
+    }
+}
+
+// The same with a case for each frequent kind: tbegin., tend., ld, std, addi. There the compiler knows the row and the event's shape.
+fn frequent(f: Fields, zero: bool) -> Read
+    ensures { λ r. ⌜ r ≡ of-kind f zero ⌝ }
+{
+    let kind = f.kind;
+    let x = f.x;
+    let ra = f.ra;
+    let index = f.index;
+    let si = f.si;
+    let one = f.flags == 1;
+    match kind {
+        1 => judged(f, zero, event::row(1), Event::Tbegin { r: one }),
+        2 => judged(f, zero, event::row(2), Event::Tend { a: one }),
+        12 => judged(f, zero, event::row(12), Event::Ld { rt: x, index }),
+        13 => judged(f, zero, event::row(13), Event::Std { ra, index }),
+        14 => judged(f, zero, event::row(14), Event::Addi { rt: x, ra, si }),
+        _ => of_kind(f, zero),
     }
 }
 
@@ -101,4 +123,17 @@ pub fn read(s: &[u8]) -> Read
         return Read::Refused(answer::BAD_FIRST_BYTE);
     }
     of_kind(fields_at(s), fixed_zero(s))
+}
+
+// The same for a run, which alone calls it: the compiler then puts the frequent kinds into the run's loop (docs/PERFORMANCE.md).
+pub fn read_in_run(s: &[u8]) -> Read
+    ensures { λ r. ⌜ r ≡ read (now (s .entry)) ⌝ }
+{
+    if s.len() == RECORD_SIZE {
+        let first = s[0];
+        if first == FIRST_BYTE {
+            return frequent(fields_at(s), fixed_zero(s));
+        }
+    }
+    read(s)
 }
