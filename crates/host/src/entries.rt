@@ -52,7 +52,8 @@ fn first_of(k: u8, n: u8) -> u8
     k
 }
 
-// One event. Fields that are no event are refused after 1 and 2.
+// One event. Fields that are no event are refused after 1 and 2. An event is run as a tape of one record: the archive then has one caller of
+// the step on rows, the run (docs/PERFORMANCE.md).
 #[no_mangle]
 pub extern "C" fn naszeptan_step(m: RawMachine, mem: &mut [u64], e: Fields) -> RawDone
     ensures { λ r. ⌜ r ≡ step m (now (mem .entry)) e .done ⌝ }
@@ -60,7 +61,10 @@ pub extern "C" fn naszeptan_step(m: RawMachine, mem: &mut [u64], e: Fields) -> R
 {
     let len = mem.len();
     let found = tape::reader::of_kind(e, true);
-    let Read::Record { thread, event } = found else {
+    let Read::Record {
+        thread: _,
+        event: _,
+    } = found else {
         return RawDone {
             answer: first_of(naszeptan_valid(m, len), tape::number(found)),
             machine: m,
@@ -72,10 +76,12 @@ pub extern "C" fn naszeptan_step(m: RawMachine, mem: &mut [u64], e: Fields) -> R
             machine: m,
         };
     }
-    let done = step::step(crossing::machine_of(m), mem, thread, event);
+    let record = tape::writer::bytes(e);
+    let mut answers = [0; 1];
+    let ended = run::run(crossing::machine_of(m), mem, &record, &mut answers);
     RawDone {
-        answer: done.answer,
-        machine: crossing::raw_machine(done.machine),
+        answer: first_of(ended.answer, answers[0]),
+        machine: crossing::raw_machine(ended.machine),
     }
 }
 

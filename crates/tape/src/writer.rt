@@ -11,7 +11,7 @@ use event::Event;
 use event::Fields;
 
 // The record's bytes.
-fn bytes(f: Fields) -> [u8; RECORD_SIZE]
+pub fn bytes(f: Fields) -> [u8; RECORD_SIZE]
     ensures { λ r. ⌜ r ≡ bytes f ⌝ }
 {
     let index = f.index;

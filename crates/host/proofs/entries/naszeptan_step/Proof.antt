@@ -1,7 +1,11 @@
 -- `host::entries::naszeptan_step` meets its contract.
-use mathlib.Core.Path.{sym, _∙_}
+use mathlib.Core.Path.{sym, ap, _∙_}
 use Rattle.base.proofs.Below.{flag-true, flag-false}
-use Rattle.host.specs.Host.{step}
+use Rattle.step.specs.Step.{Outcome}
+use Rattle.laws_round.specs.Round.{FieldsFit}
+use Rattle.crossing.specs.Crossing.{machine-of, raw-machine}
+use Rattle.host.specs.Host.{crossed, step}
+use Rattle.host.proofs.Laws.{run-of-one}
 use borrow.Author.Needs.{needs}
 use Rattle.host.proofs.entries.naszeptan_step.Statement.{statement}
 use Rattle.host.proofs.entries.naszeptan_step.Tie as tie
@@ -9,11 +13,11 @@ use Rattle.host.proofs.entries.naszeptan_step.Tie as tie
 of-kind-requires : tie.Need-of-kind-requires
 of-kind-requires c κs = search needs
 
-enum-known-found : tie.Need-enum-known-found
-enum-known-found c = search needs
-
 enum-told : tie.Need-enum-told
 enum-told c = search needs
+
+enum-told-2 : tie.Need-enum-told-2
+enum-told-2 c = search needs
 
 naszeptan-valid-requires : tie.Need-naszeptan-valid-requires
 naszeptan-valid-requires c κs = search needs
@@ -29,9 +33,8 @@ unfolding step
 returns c =
     let v = c .before .before in
     let e = v .before in
-    let k = e .before .before in
-    let p = sym (k .of-kind .ensures) ∙ e .enum-told .given .1 in
-    (simp (c .first-of .ensures, v .naszeptan-valid .ensures, c .before .number .ensures, e .enum-told .given .1, p), simp p)
+    let p = sym (e .before .before .of-kind .ensures) ∙ e .enum-told2 .given .1 in
+    (simp (c .first-of .ensures, v .naszeptan-valid .ensures, c .before .number .ensures, e .enum-told2 .given .1, p), simp p)
 
 right-requires : tie.Need-right-requires
 right-requires c κs = search needs
@@ -43,16 +46,31 @@ returns-2 : tie.Need-returns-2
 unfolding step
 returns-2 c =
     let t = c .before in
-    let f = t .before .before .before in
-    let p = sym (f .before .before .of-kind .ensures) ∙ f .found .given .1 in
+    let e = t .before .before in
+    let p = sym (e .before .before .of-kind .ensures) ∙ e .enum-told .given .1 in
     let r = flag-false (t .before .right .ensures) (t .if1 .taken) in
     (simp (c .naszeptan-valid2 .ensures, p, r), simp (p, r))
+
+bytes-requires : tie.Need-bytes-requires
+bytes-requires c κs = search needs
 
 machine-of-requires : tie.Need-machine-of-requires
 machine-of-requires c κs = search needs
 
-step-requires : tie.Need-step-requires
-step-requires c κs = search needs
+slice-aggregate-run : tie.Need-slice-aggregate-run
+slice-aggregate-run c = search needs
+
+slice-aggregate-run-2 : tie.Need-slice-aggregate-run-2
+slice-aggregate-run-2 c = search needs
+
+run-requires : tie.Need-run-requires
+run-requires c κs = search needs
+
+array-read-first-of : tie.Need-array-read-first-of
+array-read-first-of c = search needs
+
+first-of-requires-2 : tie.Need-first-of-requires-2
+first-of-requires-2 c κs = search needs
 
 raw-machine-requires : tie.Need-raw-machine-requires
 raw-machine-requires c κs = search needs
@@ -60,24 +78,42 @@ raw-machine-requires c κs = search needs
 same-length : tie.Need-same-length
 same-length c = search needs
 
+fits : (c : tie.Start) → FieldsFit (c .args .e)
+fits c =
+    record {
+      kind = search needs;
+      thread = search needs;
+      x = search needs;
+      ra = search needs;
+      rb = search needs;
+      flags = search needs;
+      index = search needs;
+      si = search needs;
+    }
+
 returns-3 : tie.Need-returns-3
 unfolding step
 returns-3 c =
-    let s = c .before .before .before in
-    let m = s .before .before in
-    let t = m .before in
-    let f = t .before .before .before in
-    let p = sym (f .before .before .of-kind .ensures) ∙ f .found .given .1 in
-    let r = flag-true (t .before .right .ensures) (t .if1 .left) in
-    (simp (c .raw-machine .ensures, s .step .ensures .0, m .machine-of .ensures, p, r), simp (s .step .ensures .1, m .machine-of .ensures, p, r))
+    let w = c .before in
+    let r = w .before .before .before .before in
+    let o = r .before .before .before .before in
+    let b = o .before in
+    let t = b .before in
+    let e = t .before .before in
+    let k = e .before .before in
+    let s = k .before .before in
+    let p = sym (k .of-kind .ensures) ∙ e .enum-told .given .1 in
+    let g = flag-true (t .before .right .ensures) (t .if1 .left) in
+    let law = run-of-one (machine-of (s .args .m)) (s .args .mem .now) (s .args .e) _ _ (fits s) p in
+    (simp (c .raw-machine .ensures, w .first-of2 .ensures, r .run .ensures .0, r .run .ensures .1 .1, o .machine-of .ensures, b .bytes .ensures, p, g) (ap (λ (x : Outcome). crossed x .done) law), simp (r .run .ensures .1 .0, o .machine-of .ensures, b .bytes .ensures, p, g) (ap (λ (x : Outcome). x .memory) law))
 
 pub naszeptan-step-spec : {M : Type 1} → statement M
 naszeptan-step-spec =
     tie.close
     (tie.spec
     of-kind-requires
-    enum-known-found
     enum-told
+    enum-told-2
     naszeptan-valid-requires
     number-requires
     first-of-requires
@@ -85,8 +121,13 @@ naszeptan-step-spec =
     right-requires
     naszeptan-valid-requires-2
     returns-2
+    bytes-requires
     machine-of-requires
-    step-requires
+    slice-aggregate-run
+    slice-aggregate-run-2
+    run-requires
+    array-read-first-of
+    first-of-requires-2
     raw-machine-requires
     same-length
     returns-3)
