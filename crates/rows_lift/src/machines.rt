@@ -5,7 +5,7 @@ ghost use Prim.Native.Nat.{_<_};
 ghost use lib.ListN.{set};
 ghost use Rattle.base.specs.Limits.{most-threads};
 ghost use Rattle.machine.specs.Valid.{unused-zero};
-ghost use Rattle.rows.specs.Rows.{rows, threads-of, machine-of};
+ghost use Rattle.rows.specs.Rows.{rows, row, thread-of, threads-of, machine-of};
 ghost use Rattle.rows_lift.specs.Inner.{Clean};
 use base::CR_FIELDS;
 use base::GPRS;
@@ -50,7 +50,7 @@ fn laid_at(
     );
 }
 
-// The machine's threads into the rows.
+// The machine's threads into the rows. Written out for the four: an array in a struct is copied whole where a loop takes its elements.
 pub fn laid(
     gpr: &mut [[u64; GPRS]; THREADS],
     cr: &mut [[u8; CR_FIELDS]; THREADS],
@@ -64,20 +64,31 @@ pub fn laid(
     requires { ⌜ Clean (m .threads) ⌝ }
     ensures { λ _. ⌜ threads-of (rows (now (gpr .exit)) (now (cr .exit)) (now (kgpr .exit)) (now (kcr .exit)) (now (words .exit)) (now (ix .exit)) (now (vl .exit))) ≡ m .threads ⌝ }
 {
-    for w in 0..THREADS {
-        let t = m.threads[w];
-        laid_at(
-            &mut *gpr,
-            &mut *cr,
-            &mut *kgpr,
-            &mut *kcr,
-            &mut *words,
-            &mut *ix,
-            &mut *vl,
-            w,
-            t,
-        );
-    }
+    let a = m.threads[0];
+    laid_at(&mut *gpr, &mut *cr, &mut *kgpr, &mut *kcr, &mut *words, &mut *ix, &mut *vl, 0, a);
+    let b = m.threads[1];
+    laid_at(&mut *gpr, &mut *cr, &mut *kgpr, &mut *kcr, &mut *words, &mut *ix, &mut *vl, 1, b);
+    let c = m.threads[2];
+    laid_at(&mut *gpr, &mut *cr, &mut *kgpr, &mut *kcr, &mut *words, &mut *ix, &mut *vl, 2, c);
+    let d = m.threads[3];
+    laid_at(&mut *gpr, &mut *cr, &mut *kgpr, &mut *kcr, &mut *words, &mut *ix, &mut *vl, 3, d);
+}
+
+// The thread of row w.
+fn lifted_at(
+    gpr: &[[u64; GPRS]; THREADS],
+    cr: &[[u8; CR_FIELDS]; THREADS],
+    kgpr: &[[u64; GPRS]; THREADS],
+    kcr: &[[u8; CR_FIELDS]; THREADS],
+    words: &[[u64; HEAD]; THREADS],
+    ix: &[[u32; PLACES]; THREADS],
+    vl: &[[u64; PLACES]; THREADS],
+    w: usize,
+) -> Thread
+    requires { ⌜ w < most-threads ⌝ }
+    ensures { λ t. ⌜ t ≡ thread-of (row (rows (now (gpr .entry)) (now (cr .entry)) (now (kgpr .entry)) (now (kcr .entry)) (now (words .entry)) (now (ix .entry)) (now (vl .entry))) w) ⌝ }
+{
+    crate::lifted(&gpr[w], &cr[w], &kgpr[w], &kcr[w], &words[w], &ix[w], &vl[w])
 }
 
 // The machine of the rows.
@@ -89,22 +100,17 @@ pub fn lifted(
     words: &[[u64; HEAD]; THREADS],
     ix: &[[u32; PLACES]; THREADS],
     vl: &[[u64; PLACES]; THREADS],
-    m: Machine,
+    count: usize,
 ) -> Machine
-    ensures { λ r. ⌜ r ≡ machine-of (m .count) (rows (now (gpr .entry)) (now (cr .entry)) (now (kgpr .entry)) (now (kcr .entry)) (now (words .entry)) (now (ix .entry)) (now (vl .entry))) ⌝ }
+    ensures { λ r. ⌜ r ≡ machine-of count (rows (now (gpr .entry)) (now (cr .entry)) (now (kgpr .entry)) (now (kcr .entry)) (now (words .entry)) (now (ix .entry)) (now (vl .entry))) ⌝ }
 {
-    let mut n = m;
-    for w in 0..THREADS {
-        let t = crate::lifted(
-            &gpr[w],
-            &cr[w],
-            &kgpr[w],
-            &kcr[w],
-            &words[w],
-            &ix[w],
-            &vl[w],
-        );
-        n.threads[w] = t;
+    Machine {
+        count,
+        threads: [
+            lifted_at(gpr, cr, kgpr, kcr, words, ix, vl, 0),
+            lifted_at(gpr, cr, kgpr, kcr, words, ix, vl, 1),
+            lifted_at(gpr, cr, kgpr, kcr, words, ix, vl, 2),
+            lifted_at(gpr, cr, kgpr, kcr, words, ix, vl, 3),
+        ],
     }
-    n
 }

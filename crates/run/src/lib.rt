@@ -189,7 +189,7 @@ fn run_valid(m: Machine, mem: &mut [u64], tape: &[u8], answers: &mut [u8]) -> En
         tape,
         answers,
     );
-    let n = rows_lift::machines::lifted(&gpr, &cr, &kgpr, &kcr, &words, &ix, &vl, m);
+    let n = rows_lift::machines::lifted(&gpr, &cr, &kgpr, &kcr, &words, &ix, &vl, m.count);
     Ended {
         answer: s.answer,
         count: s.count,

@@ -56,7 +56,7 @@ fn step_valid(m: Machine, mem: &mut [u64], thread: u8, e: Event) -> Done
         thread,
         e,
     );
-    let machine = rows_lift::machines::lifted(&gpr, &cr, &kgpr, &kcr, &words, &ix, &vl, m);
+    let machine = rows_lift::machines::lifted(&gpr, &cr, &kgpr, &kcr, &words, &ix, &vl, m.count);
     Done { answer, machine }
 }
 

@@ -1,77 +1,89 @@
 -- `rows_lift::machines::laid` meets its contract.
-use Prim.Native.Nat.{_-_, _≤_, _<_}
+use Prim.Native.Nat.{_<_}
 use borrow.Author.Needs.{needs}
-use lib.ListN.{length}
+use lib.ListN.{length, set}
 use mathlib.Core.List.{List}
-use mathlib.Core.Path.{_≡_, refl, ap, _∙_}
-use native.Mathlib.Nat.{not-suc-le-zero}
+use mathlib.Core.Path.{_≡_, ap, _∙_}
 use native.Mathlib.Omega.{arith}
 use Rattle.base.proofs.Below.{length-parts}
-use Rattle.rows_lift.proofs.Threads.{Agree, four, agree-more, agree-all}
-use Rattle.machine.specs.Machine as machine
-use Rattle.rows.specs.Rows.{Rows, rows, threads-of}
+use Rattle.rows_lift.proofs.Threads.{four-threads}
+use Rattle.machine.specs.Machine.{thread}
+use Rattle.rows.specs.Rows.{threads-of}
 use Rattle.thread.specs.declared.Thread.{Thread}
 use Rattle.rows_lift.proofs.machines.laid.Statement.{statement}
 use Rattle.rows_lift.proofs.machines.laid.Tie as tie
 
-abbrev Inv-loop : tie.InvT-loop
-Inv-loop gpr₀ cr₀ kgpr₀ kcr₀ words₀ ix₀ vl₀ m w₀ gpr cr kgpr kcr words ix vl w = (w ≤ 4) × Agree (threads-of (rows gpr cr kgpr kcr words ix vl)) (m .threads) w
+-- the places before and after each thread
+abbrev start : (c : tie.After-laid-at) → tie.Start
+start c = c .before .before .before .before .before .before .before .before .before
 
-abbrev μ-loop : tie.MeasureT-loop
-μ-loop gpr₀ cr₀ kgpr₀ kcr₀ words₀ ix₀ vl₀ m w₀ gpr cr kgpr kcr words ix vl w = 4 - w
+abbrev first : (c : tie.After-laid-at2) → tie.After-laid-at
+first c = c .before .before .before .before .before .before .before .before .before
 
-sized : (c : tie.Start Inv-loop μ-loop) → length (c .args .t8 .threads) ≡ 4
+abbrev second : (c : tie.After-laid-at3) → tie.After-laid-at2
+second c = c .before .before .before .before .before .before .before .before .before
+
+abbrev third : (c : tie.After-laid-at4) → tie.After-laid-at3
+third c = c .before .before .before .before .before .before .before .before .before
+
+sized : (c : tie.Start) → length (c .args .t8 .threads) ≡ 4
 sized c = search (needs, length-parts)
 
-abbrev rows-at : (c : tie.At-loop Inv-loop μ-loop) → Rows
-rows-at c = rows (c .loop .gpr) (c .loop .cr) (c .loop .kgpr) (c .loop .kcr) (c .loop .words) (c .loop .ix) (c .loop .vl)
+element-copy-out-a : tie.Need-element-copy-out-a
+element-copy-out-a c = search needs
 
-loop-holds : tie.Need-loop-holds Inv-loop μ-loop
-loop-holds c = (omega arith, λ k h. absurd (not-suc-le-zero h))
-
-mul-t : tie.Need-mul-t Inv-loop μ-loop
-mul-t c = search needs
-
-element-copy-out-t : tie.Need-element-copy-out-t Inv-loop μ-loop
-element-copy-out-t c = search needs
-
-laid-at-requires : tie.Need-laid-at-requires Inv-loop μ-loop
+laid-at-requires : tie.Need-laid-at-requires
 laid-at-requires c κs =
-    let l = c .before .before .before .before .before .before .before .before .before in
-    let s = l .before in
-    let h : l .loop .w < 4 = omega (arith, c .before .before .before .before .before .before .before .before .loop-test .taken) in
-    (h, s .pre (l .loop .w) h)
+    let h : 0 < 4 = omega arith in
+    (h, (c .before .before .before .before .before .before .before .before) .pre 0 h)
 
-add-w : tie.Need-add-w Inv-loop μ-loop
-add-w c = search needs
+element-copy-out-b : tie.Need-element-copy-out-b
+element-copy-out-b c = search needs
 
-loop-less : tie.Need-loop-less Inv-loop μ-loop
-loop-less c = search needs
+laid-at-requires-2 : tie.Need-laid-at-requires-2
+laid-at-requires-2 c κs =
+    let h : 1 < 4 = omega arith in
+    (h, (start (c .before .before .before .before .before .before .before .before)) .pre 1 h)
 
-loop-again : tie.Need-loop-again Inv-loop μ-loop
-loop-again c =
-    let l = c .before .before .before .before .before .before .before .before .before .before in
-    let s = l .before in
-    let w = l .loop .w in
-    let h : w < 4 = omega (arith, c .before .before .before .before .before .before .before .before .before .loop-test .taken) in
-    (omega arith, λ k b. ap (λ (ts : List Thread). machine.thread ts k) (c .laid-at .ensures) ∙ agree-more (threads-of (rows-at l)) (s .args .t8 .threads) w (machine.thread (s .args .t8 .threads) w) (four (rows-at l)) h refl (l .loop .inv .1) k b)
+element-copy-out-c : tie.Need-element-copy-out-c
+element-copy-out-c c = search needs
 
-returns : tie.Need-returns Inv-loop μ-loop
+laid-at-requires-3 : tie.Need-laid-at-requires-3
+laid-at-requires-3 c κs =
+    let h : 2 < 4 = omega arith in
+    (h, (start (first (c .before .before .before .before .before .before .before .before))) .pre 2 h)
+
+element-copy-out-d : tie.Need-element-copy-out-d
+element-copy-out-d c = search needs
+
+laid-at-requires-4 : tie.Need-laid-at-requires-4
+laid-at-requires-4 c κs =
+    let h : 3 < 4 = omega arith in
+    (h, (start (first (second (c .before .before .before .before .before .before .before .before)))) .pre 3 h)
+
+returns : tie.Need-returns
+unfolding threads-of
 returns c =
-    let l = c .before in
-    agree-all (threads-of (rows-at l)) (l .before .args .t8 .threads) (four (rows-at l)) (sized (l .before)) (λ k h. l .loop .inv .1 k (omega arith))
+    let y = third c in
+    let x = second y in
+    let w = first x in
+    let ts = start w .args .t8 .threads in
+    c .laid-at4 .ensures
+    ∙ ap (λ (us : List Thread). set us 3 (thread ts 3)) (y .laid-at3 .ensures)
+    ∙ ap (λ (us : List Thread). set (set us 2 (thread ts 2)) 3 (thread ts 3)) (x .laid-at2 .ensures)
+    ∙ ap (λ (us : List Thread). set (set (set us 1 (thread ts 1)) 2 (thread ts 2)) 3 (thread ts 3)) (w .laid-at .ensures)
+    ∙ four-threads ts (sized (start w))
 
 pub laid-spec : {M : Type 1} → statement M
 laid-spec =
     tie.close
     (tie.spec
-    Inv-loop
-    μ-loop
-    loop-holds
-    mul-t
-    element-copy-out-t
+    element-copy-out-a
     laid-at-requires
-    add-w
-    loop-less
-    loop-again
+    element-copy-out-b
+    laid-at-requires-2
+    element-copy-out-c
+    laid-at-requires-3
+    element-copy-out-d
+    laid-at-requires-4
     returns)
