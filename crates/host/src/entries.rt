@@ -64,7 +64,8 @@ pub extern "C" fn naszeptan_step(m: RawMachine, mem: &mut [u64], e: Fields) -> R
     let Read::Record {
         thread: _,
         event: _,
-    } = found else {
+    } = found
+    else {
         return RawDone {
             answer: first_of(naszeptan_valid(m, len), tape::number(found)),
             machine: m,

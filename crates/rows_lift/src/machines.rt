@@ -1,7 +1,7 @@
 // A machine laid into the rows of its threads, and lifted out of them.
 ghost use mathlib.Core.Path.{_≡_};
 ghost use mathlib.Core.Bool.{true};
-ghost use Prim.Native.Nat.{_<_};
+ghost use Prim.Native.Nat.{_+_, _<_};
 ghost use lib.ListN.{set};
 ghost use Rattle.base.specs.Limits.{most-threads};
 ghost use Rattle.machine.specs.Valid.{unused-zero};
@@ -50,7 +50,49 @@ fn laid_at(
     );
 }
 
-// The machine's threads into the rows. Written out for the four: an array in a struct is copied whole where a loop takes its elements.
+// Two threads into the rows, from row w on.
+fn two_laid_at(
+    gpr: &mut [[u64; GPRS]; THREADS],
+    cr: &mut [[u8; CR_FIELDS]; THREADS],
+    kgpr: &mut [[u64; GPRS]; THREADS],
+    kcr: &mut [[u8; CR_FIELDS]; THREADS],
+    words: &mut [[u64; HEAD]; THREADS],
+    ix: &mut [[u32; PLACES]; THREADS],
+    vl: &mut [[u64; PLACES]; THREADS],
+    w: usize,
+    t: Thread,
+    u: Thread,
+)
+    requires { ⌜ w + 1 < most-threads ⌝ }
+    requires { ⌜ unused-zero (t .transaction) ≡ true ⌝ }
+    requires { ⌜ unused-zero (u .transaction) ≡ true ⌝ }
+    ensures { λ _. ⌜ threads-of (rows (now (gpr .exit)) (now (cr .exit)) (now (kgpr .exit)) (now (kcr .exit)) (now (words .exit)) (now (ix .exit)) (now (vl .exit))) ≡ set (set (threads-of (rows (now (gpr .entry)) (now (cr .entry)) (now (kgpr .entry)) (now (kcr .entry)) (now (words .entry)) (now (ix .entry)) (now (vl .entry)))) w t) (w + 1) u ⌝ }
+{
+    laid_at(
+        &mut *gpr,
+        &mut *cr,
+        &mut *kgpr,
+        &mut *kcr,
+        &mut *words,
+        &mut *ix,
+        &mut *vl,
+        w,
+        t,
+    );
+    laid_at(
+        &mut *gpr,
+        &mut *cr,
+        &mut *kgpr,
+        &mut *kcr,
+        &mut *words,
+        &mut *ix,
+        &mut *vl,
+        w + 1,
+        u,
+    );
+}
+
+// The machine's threads into the rows. No loop: it would copy the array of threads whole before it takes one.
 pub fn laid(
     gpr: &mut [[u64; GPRS]; THREADS],
     cr: &mut [[u8; CR_FIELDS]; THREADS],
@@ -65,13 +107,33 @@ pub fn laid(
     ensures { λ _. ⌜ threads-of (rows (now (gpr .exit)) (now (cr .exit)) (now (kgpr .exit)) (now (kcr .exit)) (now (words .exit)) (now (ix .exit)) (now (vl .exit))) ≡ m .threads ⌝ }
 {
     let a = m.threads[0];
-    laid_at(&mut *gpr, &mut *cr, &mut *kgpr, &mut *kcr, &mut *words, &mut *ix, &mut *vl, 0, a);
     let b = m.threads[1];
-    laid_at(&mut *gpr, &mut *cr, &mut *kgpr, &mut *kcr, &mut *words, &mut *ix, &mut *vl, 1, b);
     let c = m.threads[2];
-    laid_at(&mut *gpr, &mut *cr, &mut *kgpr, &mut *kcr, &mut *words, &mut *ix, &mut *vl, 2, c);
     let d = m.threads[3];
-    laid_at(&mut *gpr, &mut *cr, &mut *kgpr, &mut *kcr, &mut *words, &mut *ix, &mut *vl, 3, d);
+    two_laid_at(
+        &mut *gpr,
+        &mut *cr,
+        &mut *kgpr,
+        &mut *kcr,
+        &mut *words,
+        &mut *ix,
+        &mut *vl,
+        0,
+        a,
+        b,
+    );
+    two_laid_at(
+        &mut *gpr,
+        &mut *cr,
+        &mut *kgpr,
+        &mut *kcr,
+        &mut *words,
+        &mut *ix,
+        &mut *vl,
+        2,
+        c,
+        d,
+    );
 }
 
 // The thread of row w.
@@ -88,7 +150,15 @@ fn lifted_at(
     requires { ⌜ w < most-threads ⌝ }
     ensures { λ t. ⌜ t ≡ thread-of (row (rows (now (gpr .entry)) (now (cr .entry)) (now (kgpr .entry)) (now (kcr .entry)) (now (words .entry)) (now (ix .entry)) (now (vl .entry))) w) ⌝ }
 {
-    crate::lifted(&gpr[w], &cr[w], &kgpr[w], &kcr[w], &words[w], &ix[w], &vl[w])
+    crate::lifted(
+        &gpr[w],
+        &cr[w],
+        &kgpr[w],
+        &kcr[w],
+        &words[w],
+        &ix[w],
+        &vl[w],
+    )
 }
 
 // The machine of the rows.
