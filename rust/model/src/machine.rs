@@ -273,7 +273,7 @@ impl Machine {
     pub fn shape_fits(&self, len: usize) -> bool {
         (1..=THREADS).contains(&self.count)
             && (LINE..=MAX_MEMORY).contains(&len)
-            && len.is_multiple_of(LINE)
+            && len % LINE == 0
     }
 }
 

@@ -29,13 +29,13 @@ fn watched(
     if !valid(m, mem.len()) {
         return (answer::INVALID, 0);
     }
-    let (records, rest) = tape.as_chunks();
-    if !rest.is_empty() {
+    let records = tape.chunks_exact(tape::RECORD);
+    if !records.remainder().is_empty() {
         return (answer::RAGGED, 0);
     }
     // Every event keeps the machine valid, so each step is trusted.
-    for (done, record) in records.iter().enumerate() {
-        let number = match tape::decode(record) {
+    for (done, record) in records.enumerate() {
+        let number = match tape::read(record) {
             Ok((thread, e)) => step_trusted(m, mem, thread, e),
             Err(number) => number,
         };
@@ -44,7 +44,7 @@ fn watched(
             return (number, done);
         }
     }
-    (answer::DONE, records.len())
+    (answer::DONE, tape.len() / tape::RECORD)
 }
 
 /// What the program writes for these bytes on its standard input.

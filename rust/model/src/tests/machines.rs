@@ -11,7 +11,7 @@ use crate::machine::{texasr, Entry, LineSet};
 fn faults(m: &Machine, len: usize) -> Vec<&'static str> {
     let mut faults = Faults::default();
     faults.clause(
-        (16..=4096).contains(&len) && len.is_multiple_of(16),
+        (16..=4096).contains(&len) && len % 16 == 0,
         "memory length",
     );
     faults.clause((1..=4).contains(&m.count), "thread count");
