@@ -24,6 +24,14 @@ fn begun() -> (Machine, Vec<u64>) {
 #[test]
 fn version() {
     assert_eq!(naszeptan::version(), VERSION);
+    // Cargo's version and the rules' in docs/RULES.md are the same story.
+    let (version, requests) = (VERSION >> 16, VERSION & 0xFFFF);
+    let ours = format!("{version}.{requests}.");
+    assert!(env!("CARGO_PKG_VERSION").starts_with(&ours), "{ours}");
+    let rules = include_str!("../../../docs/RULES.md");
+    assert!(rules.contains(&format!("Version of the rules: {version}.{requests}, ")));
+    let header = include_str!("../../../include/naszeptan.h");
+    assert!(header.contains(&format!("NASZEPTAN_VERSION UINT32_C(0x{VERSION:08X})")));
 }
 
 #[test]
