@@ -93,8 +93,18 @@ impl Counts {
         self.cells.as_flattened().as_flattened().iter().sum()
     }
 
+    /// What is wrong after so many events: what was met and cannot be, and from
+    /// [`ALL_MET_FROM`] on what was not met and can.
+    pub fn wrong(&self, events: u64) -> Vec<String> {
+        let mut wrong = self.impossible();
+        if events >= ALL_MET_FROM {
+            wrong.extend(self.unmet());
+        }
+        wrong
+    }
+
     /// What was met and cannot be.
-    pub fn impossible(&self) -> Vec<String> {
+    fn impossible(&self) -> Vec<String> {
         let met = self.all().filter(|row| row.met > 0);
         met.filter_map(|row| {
             let (met, name) = (row.met, &row.name);

@@ -64,20 +64,15 @@ fn run() -> Result<(), String> {
     if let Some((_, failure)) = outcome.failure {
         return Err(format!("FAILED: seed {seed}, {failure}"));
     }
-    let (mut wrong, unmet) = (counts.impossible(), counts.unmet());
-    let asked = events >= ALL_MET_FROM;
-    if asked {
-        wrong.extend(unmet.iter().cloned());
-    }
+    let wrong = counts.wrong(events);
     if !wrong.is_empty() {
         return Err(format!("FAILED: seed {seed}\n{}", wrong.join("\n")));
     }
-    match asked {
-        true => println!("ok: the sides agree; every cell that can be met was, and no other"),
-        false => println!(
-            "ok: the sides agree, and no cell was met that cannot be. {} cells were not met; \
-             that all are is asked for from {ALL_MET_FROM} events on",
-            unmet.len()
+    match counts.unmet().len() {
+        0 => println!("ok: the sides agree; every cell that can be met was, and no other"),
+        unmet => println!(
+            "ok: the sides agree, and no cell was met that cannot be; {unmet} were not met, \
+             which is asked for from {ALL_MET_FROM} events on"
         ),
     }
     Ok(())

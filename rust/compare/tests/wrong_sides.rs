@@ -3,7 +3,7 @@
 
 use compare::batch::{compare, Failure};
 use compare::cells::{Before, Call};
-use compare::counts::Counts;
+use compare::counts::{Counts, ALL_MET_FROM};
 use compare::shrink::Case;
 use compare::sides::{Archive, Side};
 use compare::start::{Kind, Start};
@@ -216,8 +216,8 @@ fn the_counts_do_not_depend_on_the_workers() {
 #[test]
 fn what_was_not_met_is_told() {
     let nothing = Counts::default();
-    assert_eq!(nothing.impossible(), [""; 0]);
-    let unmet = nothing.unmet();
+    assert_eq!(nothing.wrong(ALL_MET_FROM - 1), [""; 0]);
+    let unmet = nothing.wrong(ALL_MET_FROM);
     for cell in [
         "tbegin., T, 20",
         "std, S, 21",
@@ -235,7 +235,7 @@ fn what_cannot_be_met_is_told() {
     counts.event(2, Before::T, 21, 0);
     counts.call(Call::Write, 6);
     assert_eq!(
-        counts.impossible(),
+        counts.wrong(1),
         [
             "met 1 times: tend., T, 21, though a commit cannot fail",
             "met 1 times: write, 6, though it never gives that"
