@@ -18,14 +18,17 @@ static int held(char *line) {
   return 0;
 }
 
-/* The longest words come from all other bits set, whatever the code. */
+/* The longest words come from all other bits set, whatever the code. They are
+ * there to their end, and a short buffer has as many of them as it can. */
 static int fits(void) {
-  char whole[2 * NASZEPTAN_WORDS], cut[20];
+  static const char end[] = ", other bits 0x0000000041FFF000";
+  char whole[NASZEPTAN_WORDS], cut[20];
   for (uint64_t code = 0; code < 256; code++) {
     uint64_t value = code << 56 | UINT64_C(0x00FFFFFFFFFFFFFF);
     naszeptan_texasr_words(value, whole, sizeof whole);
     naszeptan_texasr_words(value, cut, sizeof cut);
-    if (strlen(whole) >= NASZEPTAN_WORDS ||
+    const char *found = strstr(whole, end);
+    if (found == NULL || strcmp(found, end) != 0 ||
         strncmp(whole, cut, sizeof cut - 1) != 0 ||
         strlen(cut) != sizeof cut - 1)
       return 0;
