@@ -134,3 +134,13 @@ fn used_places_are_counted() {
     thread.transaction.log[1] = Entry { index: 5, value: 6 };
     assert_eq!(thread.to_string(), "N\n    log of 1: 0=0x0 5=0x6");
 }
+
+#[test]
+fn flags_by_their_names() {
+    let mut thread = Thread::default();
+    thread.control.state = State::S;
+    thread.control.doomed = true;
+    assert_eq!(thread.to_string(), "S TDOOMED");
+    thread.control.tm = true;
+    assert_eq!(thread.to_string(), "S TM TDOOMED");
+}
