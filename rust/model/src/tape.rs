@@ -63,7 +63,7 @@ pub fn read(record: &[u8]) -> Result<(u8, Event), u8> {
 
 /// Reads a record of the right length.
 #[inline]
-fn decode(record: &[u8; RECORD]) -> Result<(u8, Event), u8> {
+pub(crate) fn decode(record: &[u8; RECORD]) -> Result<(u8, Event), u8> {
     let &[mark, kind, thread, x, ra, rb, flags, _, i0, i1, i2, i3, s0, s1, _, _] = record;
     if mark != MARK {
         return Err(answer::MARK);
