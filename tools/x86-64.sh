@@ -1,3 +1,4 @@
+# shellcheck shell=bash
 # Sourced by the scripts that build and run hosts. The archive is x86-64 code. On an x86-64 machine hosts are built and run as anywhere.
 # On an Arm one they are built by a cross compiler and run under an emulator; what is missing of these is installed from Debian's packages,
 # where that is possible.
