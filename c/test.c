@@ -174,10 +174,62 @@ static void conflict(void) {
   CHECK(ended.answer == NASZEPTAN_DONE && ended.count == 4);
   struct naszeptan_control k = ended.machine.threads[0].control;
   CHECK(k.state == NASZEPTAN_N && k.nia == 4);
-  CHECK(k.texasr >> (63 - 12) & 1); /* a conflict with a plain access */
-  CHECK(k.texasr >> (63 - 36) & 1); /* FS */
+  CHECK(NASZEPTAN_TEXASR_NON_TRANSACTIONAL_CONFLICT(k.texasr) == 1);
+  CHECK(NASZEPTAN_TEXASR_FAILED(k.texasr) == 1);
   CHECK(memory[0] == 7 && memory[16] == 0);
   memory[0] = 0;
+}
+
+/* Each flag of TEXASR is its bit and no other; wider fields by a value. */
+static void fields(void) {
+  for (int n = 0; n < 64; n++) {
+    uint64_t t = UINT64_C(1) << (63 - n);
+    CHECK(NASZEPTAN_TEXASR_PERSISTENT(t) == (n == 7));
+    CHECK(NASZEPTAN_TEXASR_DISALLOWED(t) == (n == 8));
+    CHECK(NASZEPTAN_TEXASR_NESTING_OVERFLOW(t) == (n == 9));
+    CHECK(NASZEPTAN_TEXASR_FOOTPRINT_OVERFLOW(t) == (n == 10));
+    CHECK(NASZEPTAN_TEXASR_SELF_INDUCED_CONFLICT(t) == (n == 11));
+    CHECK(NASZEPTAN_TEXASR_NON_TRANSACTIONAL_CONFLICT(t) == (n == 12));
+    CHECK(NASZEPTAN_TEXASR_TRANSACTION_CONFLICT(t) == (n == 13));
+    CHECK(NASZEPTAN_TEXASR_TRANSLATION_INVALIDATION(t) == (n == 14));
+    CHECK(NASZEPTAN_TEXASR_IMPLEMENTATION_SPECIFIC(t) == (n == 15));
+    CHECK(NASZEPTAN_TEXASR_INSTRUCTION_FETCH_CONFLICT(t) == (n == 16));
+    CHECK(NASZEPTAN_TEXASR_ABORT(t) == (n == 31));
+    CHECK(NASZEPTAN_TEXASR_SUSPENDED(t) == (n == 32));
+    CHECK(NASZEPTAN_TEXASR_HV(t) == (n == 34));
+    CHECK(NASZEPTAN_TEXASR_PR(t) == (n == 35));
+    CHECK(NASZEPTAN_TEXASR_FAILED(t) == (n == 36));
+    CHECK(NASZEPTAN_TEXASR_EXACT(t) == (n == 37));
+    CHECK(NASZEPTAN_TEXASR_ROT(t) == (n == 38));
+    CHECK(naszeptan_persistent_by_isa(t) == (n >= 7 && n <= 11));
+    t |= UINT64_C(1) << (63 - 7); /* a program's own bit, for an abort alone */
+    CHECK(naszeptan_persistent_by_isa(t) == (n < 12 || n > 16));
+  }
+  uint64_t t = UINT64_C(0xA512345620000FED);
+  CHECK(NASZEPTAN_TEXASR_CODE(t) == 0xA5);
+  CHECK(NASZEPTAN_TEXASR_CAUSE(t) == 0x123456);
+  CHECK(NASZEPTAN_TEXASR_PRIVILEGE(t) == 2);
+  CHECK(NASZEPTAN_TEXASR_LEVEL(t) == 0xFED);
+}
+
+/* The SPRs, by what mfspr gives of a thread whose registers are set. */
+static void special_registers(void) {
+  struct naszeptan_machine m = naszeptan_fresh();
+  struct naszeptan_event e = event(NASZEPTAN_MFSPR, 0);
+  m.threads[0].control.tfhar = 0x10;
+  m.threads[0].control.tfiar = 0x21;
+  m.threads[0].control.texasr = UINT64_C(0x0008000018000001);
+  static const uint64_t wanted[] = {0x10, 0x21, UINT64_C(0x0008000018000001),
+                                    0x00080000};
+  static const uint8_t numbers[] = {NASZEPTAN_SPR_TFHAR, NASZEPTAN_SPR_TFIAR,
+                                    NASZEPTAN_SPR_TEXASR,
+                                    NASZEPTAN_SPR_TEXASRU};
+  for (int n = 0; n < 4; n++) {
+    e.x = numbers[n];
+    e.ra = 9;
+    struct naszeptan_done done = naszeptan_step(m, memory, NASZEPTAN_MEMORY, e);
+    CHECK(done.machine.threads[0].live.gpr[9] == wanted[n]);
+  }
 }
 
 static void records(void) {
@@ -216,6 +268,8 @@ int main(void) {
   bits();
   refusals();
   conflict();
+  fields();
+  special_registers();
   records();
   printf("C host: %d checks passed\n", checks);
   return 0;

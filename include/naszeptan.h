@@ -97,6 +97,94 @@ enum naszeptan_kind {
   NASZEPTAN_HOST = 17       /* flags: PR + 2 * TM */
 };
 
+/* The SPRs that mtspr and mfspr know, for the event's x. */
+#define NASZEPTAN_SPR_TFHAR 128
+#define NASZEPTAN_SPR_TFIAR 129
+#define NASZEPTAN_SPR_TEXASR 130
+#define NASZEPTAN_SPR_TEXASRU 131 /* TEXASR's upper half */
+
+/* The fields of TEXASR, by docs/RULES.md, X2. Each macro takes the 64 bits and
+ * gives the field as a number, a flag as 0 or 1. Beside each stands the macro
+ * for it in gcc's htmintrin.h, which takes the same bits (its _TEXASRU_ ones
+ * take the upper half, as SPR 131 gives it). The model never sets translation
+ * invalidation and HV, nor the two fields that are marked; hardware may.
+ * naszeptan_words.h tells all of this in words. */
+#define NASZEPTAN_TEXASR_FIELD(texasr, last, size) \
+  ((uint64_t)(texasr) >> (63 - (last)) & ((UINT64_C(1) << (size)) - 1))
+
+/* 0:7, _TEXASR_FAILURE_CODE */
+#define NASZEPTAN_TEXASR_CODE(texasr) NASZEPTAN_TEXASR_FIELD(texasr, 7, 8)
+/* 7, _TEXASR_FAILURE_PERSISTENT: see naszeptan_persistent_by_isa below */
+#define NASZEPTAN_TEXASR_PERSISTENT(texasr) NASZEPTAN_TEXASR_FIELD(texasr, 7, 1)
+/* 8, _TEXASR_DISALLOWED */
+#define NASZEPTAN_TEXASR_DISALLOWED(texasr) NASZEPTAN_TEXASR_FIELD(texasr, 8, 1)
+/* 9, _TEXASR_NESTING_OVERFLOW */
+#define NASZEPTAN_TEXASR_NESTING_OVERFLOW(texasr) \
+  NASZEPTAN_TEXASR_FIELD(texasr, 9, 1)
+/* 10, _TEXASR_FOOTPRINT_OVERFLOW */
+#define NASZEPTAN_TEXASR_FOOTPRINT_OVERFLOW(texasr) \
+  NASZEPTAN_TEXASR_FIELD(texasr, 10, 1)
+/* 11, _TEXASR_SELF_INDUCED_CONFLICT */
+#define NASZEPTAN_TEXASR_SELF_INDUCED_CONFLICT(texasr) \
+  NASZEPTAN_TEXASR_FIELD(texasr, 11, 1)
+/* 12, _TEXASR_NON_TRANSACTIONAL_CONFLICT */
+#define NASZEPTAN_TEXASR_NON_TRANSACTIONAL_CONFLICT(texasr) \
+  NASZEPTAN_TEXASR_FIELD(texasr, 12, 1)
+/* 13, _TEXASR_TRANSACTION_CONFLICT */
+#define NASZEPTAN_TEXASR_TRANSACTION_CONFLICT(texasr) \
+  NASZEPTAN_TEXASR_FIELD(texasr, 13, 1)
+/* 14, _TEXASR_TRANSLATION_INVALIDATION_CONFLICT */
+#define NASZEPTAN_TEXASR_TRANSLATION_INVALIDATION(texasr) \
+  NASZEPTAN_TEXASR_FIELD(texasr, 14, 1)
+/* 15, _TEXASR_IMPLEMENTAION_SPECIFIC (so spelled): of the Power ISA alone */
+#define NASZEPTAN_TEXASR_IMPLEMENTATION_SPECIFIC(texasr) \
+  NASZEPTAN_TEXASR_FIELD(texasr, 15, 1)
+/* 16, _TEXASR_INSTRUCTION_FETCH_CONFLICT: of the Power ISA alone */
+#define NASZEPTAN_TEXASR_INSTRUCTION_FETCH_CONFLICT(texasr) \
+  NASZEPTAN_TEXASR_FIELD(texasr, 16, 1)
+/* 31, _TEXASR_ABORT */
+#define NASZEPTAN_TEXASR_ABORT(texasr) NASZEPTAN_TEXASR_FIELD(texasr, 31, 1)
+/* 32, _TEXASR_SUSPENDED */
+#define NASZEPTAN_TEXASR_SUSPENDED(texasr) NASZEPTAN_TEXASR_FIELD(texasr, 32, 1)
+/* 34 and 35 are HV and PR, _TEXASR_PRIVILEGE both in one */
+#define NASZEPTAN_TEXASR_PRIVILEGE(texasr) NASZEPTAN_TEXASR_FIELD(texasr, 35, 2)
+#define NASZEPTAN_TEXASR_HV(texasr) NASZEPTAN_TEXASR_FIELD(texasr, 34, 1)
+#define NASZEPTAN_TEXASR_PR(texasr) NASZEPTAN_TEXASR_FIELD(texasr, 35, 1)
+/* 36, FS, _TEXASR_FAILURE_SUMMARY: a failure is recorded */
+#define NASZEPTAN_TEXASR_FAILED(texasr) NASZEPTAN_TEXASR_FIELD(texasr, 36, 1)
+/* 37, _TEXASR_TFIAR_EXACT */
+#define NASZEPTAN_TEXASR_EXACT(texasr) NASZEPTAN_TEXASR_FIELD(texasr, 37, 1)
+/* 38, _TEXASR_ROT */
+#define NASZEPTAN_TEXASR_ROT(texasr) NASZEPTAN_TEXASR_FIELD(texasr, 38, 1)
+/* 52:63, TL, _TEXASR_TRANSACTION_LEVEL */
+#define NASZEPTAN_TEXASR_LEVEL(texasr) NASZEPTAN_TEXASR_FIELD(texasr, 63, 12)
+/* 8:31, in which the Power ISA sets just one bit */
+#define NASZEPTAN_TEXASR_CAUSE(texasr) NASZEPTAN_TEXASR_FIELD(texasr, 31, 24)
+
+/* What the Power ISA puts into bit 7 for this cause, 0 or 1 (8.4.2, bit 7): 1
+ * for the causes of bits 8 to 11; for an abort what the program gave; 0 for
+ * any other. Here bit 7 is 0 for the causes of bits 8 to 11 (rule X5), and a
+ * retry that trusts it tries for ever what can not succeed. Where bits 8:31
+ * are not one cause it is bit 7 as it stands. docs/DECISIONS.md has why
+ * nesting overflow counts. */
+static inline int naszeptan_persistent_by_isa(uint64_t texasr) {
+  switch (NASZEPTAN_TEXASR_CAUSE(texasr)) {
+  case 0x800000: /* disallowed */
+  case 0x400000: /* nesting overflow */
+  case 0x200000: /* footprint overflow */
+  case 0x100000: /* self-induced conflict */
+    return 1;
+  case 0x080000: /* non-transactional conflict */
+  case 0x040000: /* transaction conflict */
+  case 0x020000: /* translation invalidation */
+  case 0x010000: /* implementation-specific */
+  case 0x008000: /* instruction fetch conflict */
+    return 0;
+  default:
+    return (int)NASZEPTAN_TEXASR_PERSISTENT(texasr);
+  }
+}
+
 /* The registers that a checkpoint keeps. cr[n - 1] is CR field n. */
 struct naszeptan_registers {
   uint64_t gpr[NASZEPTAN_GPRS];

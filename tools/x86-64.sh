@@ -1,10 +1,15 @@
-# Sourced by tools/cargo and tools/test-c. The archive target/staticlib/libhost.a is x86-64 code. On an x86-64 machine hosts are
-# built and run as anywhere. On an Arm one they are built by a cross compiler and run under an emulator; what is missing of these is
-# installed from Debian's packages, where that is possible.
-# Gives: CC, the C compiler; RUN, what a program is run by (empty where it runs by itself); and cargo's settings.
+# shellcheck shell=bash
+# Sourced by the scripts that build and run hosts. The archive is x86-64 code. On an x86-64 machine hosts are built and run as anywhere.
+# On an Arm one they are built by a cross compiler and run under an emulator; what is missing of these is installed from Debian's packages,
+# where that is possible.
+#   for_c      gives cc, the words of the C compiler, and run, the words that a program is run by (none where it runs by itself)
+#   for_rust   gives the same and cargo's settings, and refuses a cargo that is too old
 
 target=x86_64-unknown-linux-gnu
-packages='gcc-x86-64-linux-gnu libc6-dev-amd64-cross qemu-user rustc-web libstd-rust-web-dev:amd64'
+c_packages='gcc-x86-64-linux-gnu libc6-dev-amd64-cross qemu-user'
+rust_packages='rustc-web libstd-rust-web-dev:amd64'
+cc=()
+run=()
 
 # The compiler has Rust's library for x86-64.
 has_library() {
@@ -24,35 +29,56 @@ rust_compiler() {
     return 1
 }
 
-have_tools() {
-    command -v x86_64-linux-gnu-gcc >/dev/null && command -v qemu-x86_64 >/dev/null && rust_compiler >/dev/null
-}
-
-install_tools() {
+install_packages() { # PACKAGE...
     if [ "$(id -u)" != 0 ] || ! command -v apt-get >/dev/null; then
-        printf 'hosts on this machine need these packages of Debian (with its architecture amd64 added): %s\n' "$packages" >&2
+        printf 'hosts on this machine need these packages of Debian (with its architecture amd64 added): %s\n' "$*" >&2
         return 1
     fi
     {
         dpkg --add-architecture amd64
         apt-get update
-        # shellcheck disable=SC2086 # one word a package
-        DEBIAN_FRONTEND=noninteractive apt-get install -y --no-install-recommends $packages
+        DEBIAN_FRONTEND=noninteractive apt-get install -y --no-install-recommends "$@"
     } >&2
 }
 
-if [ "$(uname -m)" = x86_64 ]; then
-    CC=${CC:-gcc}
-    RUN=''
-else
-    have_tools || install_tools
-    CC=x86_64-linux-gnu-gcc
-    RUN=qemu-x86_64
+for_c() {
+    if [ "$(uname -m)" = x86_64 ]; then
+        read -r -a cc <<<"${CC:-gcc}"
+        return
+    fi
+    if ! command -v x86_64-linux-gnu-gcc >/dev/null || ! command -v qemu-x86_64 >/dev/null; then
+        # shellcheck disable=SC2086 # one word a package
+        install_packages $c_packages
+    fi
+    cc=(x86_64-linux-gnu-gcc)
+    run=(qemu-x86_64)
+    # Without the C library of amd64 itself, that of the cross compiler serves.
+    [ -e /lib64/ld-linux-x86-64.so.2 ] || export QEMU_LD_PREFIX=${QEMU_LD_PREFIX:-/usr/x86_64-linux-gnu}
+}
+
+# Told before anything is proved or built: an old cargo stumbles over the lock file, and does not say why.
+new_enough() { # FOLDER OF THE WORKSPACE
+    local wanted found
+    wanted=$(sed -n 's/^rust-version = "\(.*\)"$/\1/p' "$1/Cargo.toml")
+    found=$(cargo --version 2>/dev/null | cut -d ' ' -f 2) || found=''
+    [ -z "$found" ] || ! printf '%s\n' "$wanted" "$found" | sort -CV || return 0
+    printf 'The Rust hosts need cargo and rustc %s or newer; found here: %s. ' "$wanted" "${found:-none}" >&2
+    printf 'Debian 13 has them as cargo and rustc, Debian 12 as cargo-web and rustc-web.\n' >&2
+    return 1
+}
+
+for_rust() { # FOLDER OF THE WORKSPACE
+    for_c
+    new_enough "$1"
+    [ "$(uname -m)" != x86_64 ] || return 0
+    if ! rust_compiler >/dev/null; then
+        # shellcheck disable=SC2086 # one word a package
+        install_packages $rust_packages
+    fi
     RUSTC=$(rust_compiler)
     RUSTDOC=$(dirname "$RUSTC")/rustdoc
     export RUSTC RUSTDOC CARGO_BUILD_TARGET=$target NASZEPTAN_EMULATED=1
-    export CARGO_TARGET_X86_64_UNKNOWN_LINUX_GNU_LINKER=$CC CARGO_TARGET_X86_64_UNKNOWN_LINUX_GNU_RUNNER=$RUN
+    export CARGO_TARGET_X86_64_UNKNOWN_LINUX_GNU_LINKER=${cc[0]} CARGO_TARGET_X86_64_UNKNOWN_LINUX_GNU_RUNNER=${run[0]}
     # The emulator slows a process of several threads down: it then orders memory accesses by barriers.
     export RUST_TEST_THREADS=${RUST_TEST_THREADS:-1}
-fi
-export CARGO_NET_OFFLINE=true
+}

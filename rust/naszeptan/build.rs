@@ -1,14 +1,38 @@
 //! Finds the proved archive and links it.
 
 use std::env;
+use std::ffi::OsString;
 use std::path::{Path, PathBuf};
-use std::process::exit;
+use std::process::{exit, Command};
 
 fn main() {
     println!("cargo:rerun-if-env-changed=NASZEPTAN_LIB_DIR");
-    let folder = folder();
-    let archive = folder.join("libhost.a");
+    let named = env::var_os("NASZEPTAN_LIB_DIR").filter(|folder| !folder.is_empty());
+    let folder = match named {
+        Some(folder) => named_folder(folder),
+        None => own_folder(),
+    };
+    println!("cargo:rustc-link-search=native={}", folder.display());
+    println!("cargo:rustc-link-lib=static=host");
+}
+
+/// The folder that NASZEPTAN_LIB_DIR, an absolute path, names. Its archive is
+/// taken as it is, so it may be one for another processor.
+fn named_folder(folder: OsString) -> PathBuf {
+    let archive = Path::new(&folder).join("libhost.a");
     println!("cargo:rerun-if-changed={}", archive.display());
+    if !archive.is_file() {
+        refuse(&format!(
+            "There is no {}, which NASZEPTAN_LIB_DIR names.",
+            archive.display()
+        ));
+    }
+    PathBuf::from(folder)
+}
+
+/// Where tools/archive leaves the archive. That script tells, for C hosts too,
+/// whether it is there and that of the sources.
+fn own_folder() -> PathBuf {
     let arch = env::var("CARGO_CFG_TARGET_ARCH").unwrap_or_default();
     if arch != "x86_64" {
         refuse(&format!(
@@ -16,27 +40,28 @@ fn main() {
              On such a machine, call tools/cargo in place of cargo: it builds and runs for x86-64."
         ));
     }
-    if !archive.is_file() {
-        refuse(&format!(
-            "There is no {}. \
-             Make it with `rt staticlib host`, or name its folder in NASZEPTAN_LIB_DIR.",
-            archive.display()
-        ));
+    let root = root();
+    for source in ["crates", "crates.txt", "target/staticlib"] {
+        println!("cargo:rerun-if-changed={}", root.join(source).display());
     }
-    println!("cargo:rustc-link-search=native={}", folder.display());
-    println!("cargo:rustc-link-lib=static=host");
+    match Command::new(root.join("tools/archive"))
+        .arg("--find")
+        .output()
+    {
+        Err(why) => refuse(&format!(
+            "{}/tools/archive cannot be run: {why}.",
+            root.display()
+        )),
+        Ok(told) if !told.status.success() => refuse(String::from_utf8_lossy(&told.stderr).trim()),
+        Ok(_) => root.join("target/staticlib"),
+    }
 }
 
-/// NASZEPTAN_LIB_DIR, an absolute path, or else where `rt staticlib host` leaves
-/// the archive.
-fn folder() -> PathBuf {
-    if let Some(named) = env::var_os("NASZEPTAN_LIB_DIR") {
-        return PathBuf::from(named);
-    }
+fn root() -> PathBuf {
     let here = env::var_os("CARGO_MANIFEST_DIR").expect("cargo sets CARGO_MANIFEST_DIR");
     let root = Path::new(&here).ancestors().nth(2);
-    let root = root.expect("this package lies two folders below the repository's root");
-    root.join("target/staticlib")
+    root.expect("this package lies two folders below the repository's root")
+        .to_path_buf()
 }
 
 fn refuse(why: &str) -> ! {

@@ -133,7 +133,7 @@ fn run<S: Side>(side: &S, rng: &mut Rng, counts: &mut Counts) -> Result<(), Foun
         0 => gen::tape(rng, pair.machine(), pair.memory(), length),
         _ => loose_bytes(rng),
     };
-    let mut records = tape.as_chunks().0.to_vec();
+    let mut records = whole_records(&tape);
     let mut tail = Vec::new();
     match rng.below(6) {
         0..=2 => records.push(stopper(rng, &pair, &records)),
@@ -158,6 +158,14 @@ fn run<S: Side>(side: &S, rng: &mut Rng, counts: &mut Counts) -> Result<(), Foun
             tail: Some(tail),
         })),
     }
+}
+
+/// The records of a tape; a ragged end is left out.
+fn whole_records(tape: &[u8]) -> Vec<[u8; 16]> {
+    let records = tape.chunks_exact(16);
+    records
+        .map(|record| record.try_into().expect("16 bytes each"))
+        .collect()
 }
 
 /// A record that stops the run by a number of its own choice where the

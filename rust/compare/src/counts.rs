@@ -7,6 +7,17 @@ use naszeptan::{Kind, KINDS};
 use crate::cells::{self, Before, Call, CALLS, CALL_ROWS, NUMBERS, SHOWN, STATES};
 use crate::sights;
 
+/// From so many events on, all that can be met must be. Of a quarter of them the
+/// rarest are met three to five times, so that fewer may miss one by chance.
+pub const ALL_MET_FROM: u64 = 1_000_000;
+
+/// How often one cell, sight or call was met, and why it cannot be, if so.
+struct Row {
+    met: u64,
+    name: String,
+    why_not: Option<&'static str>,
+}
+
 /// All that was met.
 #[derive(Clone, PartialEq, Eq, Debug)]
 pub struct Counts {
@@ -82,47 +93,68 @@ impl Counts {
         self.cells.as_flattened().as_flattened().iter().sum()
     }
 
-    /// What could be met and was not, and what was met and cannot be.
-    pub fn wrong(&self) -> Vec<String> {
-        let mut wrong = Vec::new();
-        for (kind, states) in (0u8..).zip(&self.cells) {
-            for before in Before::ALL {
-                for (answer, &met) in (0u8..).zip(&states[before as usize]) {
-                    let why = cells::why_not(kind, before, answer);
-                    let cell = format!("{}, {}, {answer}", cells::name(kind), before.name());
-                    match why {
-                        None if met == 0 => wrong.push(format!("not met: {cell}")),
-                        Some(why) if met > 0 => {
-                            wrong.push(format!("met {met} times: {cell}, though {why}"))
-                        }
-                        _ => {}
-                    }
-                }
-            }
+    /// What is wrong after so many events: what was met and cannot be, and from
+    /// [`ALL_MET_FROM`] on what was not met and can.
+    pub fn wrong(&self, events: u64) -> Vec<String> {
+        let mut wrong = self.impossible();
+        if events >= ALL_MET_FROM {
+            wrong.extend(self.unmet());
         }
-        for (&met, (_, name, _)) in self.sights.iter().zip(&sights::ALL) {
-            if met == 0 {
-                wrong.push(format!("not met: {name}"));
-            }
-        }
-        wrong.extend(self.wrong_calls());
         wrong
     }
 
-    fn wrong_calls(&self) -> Vec<String> {
-        let mut wrong = Vec::new();
-        for (call, name, can) in CALL_ROWS {
-            for (answer, &met) in (0u8..).zip(&self.calls[call as usize]) {
-                match can.contains(&answer) {
-                    true if met == 0 => wrong.push(format!("not met: {name}, {answer}")),
-                    false if met > 0 => wrong.push(format!(
-                        "met {met} times: {name}, {answer}, which it never gives"
-                    )),
-                    _ => {}
-                }
-            }
-        }
-        wrong
+    /// What was met and cannot be.
+    fn impossible(&self) -> Vec<String> {
+        let met = self.all().filter(|row| row.met > 0);
+        met.filter_map(|row| {
+            let (met, name) = (row.met, &row.name);
+            Some(format!("met {met} times: {name}, though {}", row.why_not?))
+        })
+        .collect()
+    }
+
+    /// What could be met and was not.
+    pub fn unmet(&self) -> Vec<String> {
+        self.all()
+            .filter(|row| row.met == 0 && row.why_not.is_none())
+            .map(|row| format!("not met: {}", row.name))
+            .collect()
+    }
+
+    /// Every cell, sight and call.
+    fn all(&self) -> impl Iterator<Item = Row> + '_ {
+        let sights = self.sights.iter().zip(&sights::ALL);
+        let sights = sights.map(|(&met, (_, name, _))| Row {
+            met,
+            name: name.to_string(),
+            why_not: None,
+        });
+        self.all_cells().chain(sights).chain(self.all_calls())
+    }
+
+    fn all_cells(&self) -> impl Iterator<Item = Row> + '_ {
+        let kinds = (0u8..).zip(&self.cells);
+        let states = kinds.flat_map(|(kind, states)| {
+            Before::ALL.map(|before| (kind, before, &states[before as usize]))
+        });
+        states.flat_map(|(kind, before, answers)| {
+            (0u8..).zip(answers).map(move |(answer, &met)| Row {
+                met,
+                name: format!("{}, {}, {answer}", cells::name(kind), before.name()),
+                why_not: cells::why_not(kind, before, answer),
+            })
+        })
+    }
+
+    fn all_calls(&self) -> impl Iterator<Item = Row> + '_ {
+        CALL_ROWS.into_iter().flat_map(|(call, name, can)| {
+            let answers = (0u8..).zip(&self.calls[call as usize]);
+            answers.map(move |(answer, &met)| Row {
+                met,
+                name: format!("{name}, {answer}"),
+                why_not: (!can.contains(&answer)).then_some("it never gives that"),
+            })
+        })
     }
 
     /// The three tables. A dot is a cell that cannot be met.

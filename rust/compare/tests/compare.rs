@@ -1,11 +1,12 @@
 //! The comparison. NASZEPTAN_EVENTS gives the number of events and
 //! NASZEPTAN_SEED the seed; else both are fixed, so that the same is compared
-//! each time. Far fewer events than a million leave some cells unmet, and that
-//! fails too.
+//! each time. Every cell that can be met must be; of fewer than a million events
+//! that is not asked.
 
 use std::process::ExitCode;
 use std::time::Instant;
 
+use compare::counts::ALL_MET_FROM;
 use compare::pair::to_raw;
 use compare::sides::Archive;
 use compare::workers;
@@ -63,10 +64,16 @@ fn run() -> Result<(), String> {
     if let Some((_, failure)) = outcome.failure {
         return Err(format!("FAILED: seed {seed}, {failure}"));
     }
-    let wrong = counts.wrong();
+    let wrong = counts.wrong(events);
     if !wrong.is_empty() {
         return Err(format!("FAILED: seed {seed}\n{}", wrong.join("\n")));
     }
-    println!("ok: the sides agree; every cell that can be met was, and no other");
+    match counts.unmet().len() {
+        0 => println!("ok: the sides agree; every cell that can be met was, and no other"),
+        unmet => println!(
+            "ok: the sides agree, and no cell was met that cannot be; {unmet} were not met, \
+             which is asked for from {ALL_MET_FROM} events on"
+        ),
+    }
     Ok(())
 }

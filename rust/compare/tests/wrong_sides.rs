@@ -2,7 +2,8 @@
 //! and their tapes shrunk to what shows it.
 
 use compare::batch::{compare, Failure};
-use compare::counts::Counts;
+use compare::cells::{Before, Call};
+use compare::counts::{Counts, ALL_MET_FROM};
 use compare::shrink::Case;
 use compare::sides::{Archive, Side};
 use compare::start::{Kind, Start};
@@ -214,13 +215,30 @@ fn the_counts_do_not_depend_on_the_workers() {
 
 #[test]
 fn what_was_not_met_is_told() {
-    let wrong = Counts::default().wrong();
+    let nothing = Counts::default();
+    assert_eq!(nothing.wrong(ALL_MET_FROM - 1), [""; 0]);
+    let unmet = nothing.wrong(ALL_MET_FROM);
     for cell in [
         "tbegin., T, 20",
         "std, S, 21",
         "run, none done, 6",
         "write, 10",
     ] {
-        assert!(wrong.contains(&format!("not met: {cell}")), "{cell}");
+        assert!(unmet.contains(&format!("not met: {cell}")), "{cell}");
     }
+}
+
+/// Whatever the number of events.
+#[test]
+fn what_cannot_be_met_is_told() {
+    let mut counts = Counts::default();
+    counts.event(2, Before::T, 21, 0);
+    counts.call(Call::Write, 6);
+    assert_eq!(
+        counts.wrong(1),
+        [
+            "met 1 times: tend., T, 21, though a commit cannot fail",
+            "met 1 times: write, 6, though it never gives that"
+        ]
+    );
 }

@@ -271,9 +271,7 @@ impl Machine {
     /// may have (the number 1 of rule N1).
     #[inline]
     pub fn shape_fits(&self, len: usize) -> bool {
-        (1..=THREADS).contains(&self.count)
-            && (LINE..=MAX_MEMORY).contains(&len)
-            && len.is_multiple_of(LINE)
+        (1..=THREADS).contains(&self.count) && (LINE..=MAX_MEMORY).contains(&len) && len % LINE == 0
     }
 }
 

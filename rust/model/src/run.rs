@@ -29,12 +29,12 @@ fn watched(
     if !valid(m, mem.len()) {
         return (answer::INVALID, 0);
     }
-    let (records, rest) = tape.as_chunks();
-    if !rest.is_empty() {
+    if tape.len() % tape::RECORD != 0 {
         return (answer::RAGGED, 0);
     }
+    let (mut rest, mut done) = (tape, 0);
     // Every event keeps the machine valid, so each step is trusted.
-    for (done, record) in records.iter().enumerate() {
+    while let Some((record, more)) = rest.split_first_chunk() {
         let number = match tape::decode(record) {
             Ok((thread, e)) => step_trusted(m, mem, thread, e),
             Err(number) => number,
@@ -43,8 +43,9 @@ fn watched(
         if !answer::is_done(number) {
             return (number, done);
         }
+        (rest, done) = (more, done + 1);
     }
-    (answer::DONE, records.len())
+    (answer::DONE, done)
 }
 
 /// What the program writes for these bytes on its standard input.

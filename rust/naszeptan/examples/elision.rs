@@ -3,7 +3,7 @@
 //! failure left behind. The last record is the failure handler's first
 //! instruction, which reads TEXASR.
 
-use naszeptan::{Event, Machine, Tape, MEMORY};
+use naszeptan::{Event, Machine, Tape, MEMORY, SPR_TEXASR};
 
 /// The doubleword that is the lock: line 0.
 const LOCK: u32 = 0;
@@ -23,7 +23,13 @@ fn tape() -> Tape {
         .push(0, Event::Std { ra: 3, index: DATA })
         .push(1, li(5, 1))
         .push(1, Event::Std { ra: 5, index: LOCK })
-        .push(0, Event::Mfspr { rt: 6, spr: 130 });
+        .push(
+            0,
+            Event::Mfspr {
+                rt: 6,
+                spr: SPR_TEXASR,
+            },
+        );
     tape
 }
 

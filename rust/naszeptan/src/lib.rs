@@ -67,6 +67,8 @@
 //! - [`KINDS`], [`Kind`], [`Operand`]: what all events of one kind have in
 //!   common, one row for each kind.
 //! - [`Texasr`], [`Failure`], [`Cause`]: what a failure left behind.
+//! - `{}` of a [`Machine`] or a [`Thread`]: what is not zero. `{:?}` has every
+//!   field.
 //! - [`raw`]: the C header, for bits that the types do not allow.
 
 #![deny(missing_docs, unsafe_code)]
@@ -77,6 +79,7 @@ mod answer;
 mod event;
 mod kind;
 mod machine;
+mod show;
 #[allow(unsafe_code)]
 mod sys;
 mod tape;
@@ -90,6 +93,7 @@ pub use machine::{Control, Ended, Machine, State, Thread};
 #[doc(inline)]
 pub use raw::{version, Entry, Lines as LineSet, Registers, Transaction};
 pub use raw::{FIRST_BYTE, GPRS, LINE, MEMORY, PLACES, RECORD_SIZE, THREADS, VERSION};
+pub use raw::{SPR_TEXASR, SPR_TEXASRU, SPR_TFHAR, SPR_TFIAR};
 pub use tape::{Records, Tape};
 pub use texasr::{Cause, Failure, Texasr};
 

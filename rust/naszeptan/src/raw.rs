@@ -43,6 +43,15 @@ pub const RECORD_SIZE: usize = 16;
 /// The first byte of each record.
 pub const FIRST_BYTE: u8 = 0xE3;
 
+/// TFHAR's number for mtspr and mfspr.
+pub const SPR_TFHAR: u8 = 128;
+/// TFIAR's.
+pub const SPR_TFIAR: u8 = 129;
+/// TEXASR's.
+pub const SPR_TEXASR: u8 = 130;
+/// That of TEXASR's upper half.
+pub const SPR_TEXASRU: u8 = 131;
+
 /// The version of the rules that this crate was written for: the model's
 /// version in the upper 16 bits, the change requests that have landed in the
 /// lower. [`version`] gives the archive's.

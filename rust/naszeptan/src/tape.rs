@@ -94,7 +94,7 @@ impl Tape {
     /// Whether the length is not a multiple of 16 bytes. Such a tape is
     /// refused as a whole by a run.
     pub fn is_ragged(&self) -> bool {
-        !self.bytes.len().is_multiple_of(RECORD_SIZE)
+        self.bytes.len() % RECORD_SIZE != 0
     }
 
     /// The records, in order. A ragged end is the last of them, with

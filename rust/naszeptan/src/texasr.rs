@@ -48,11 +48,17 @@ pub enum Cause {
     TransactionConflict,
     /// Bit 14: a translation was invalidated. No event of the model does it.
     TranslationInvalidation,
+    /// Bit 15: a condition of the processor's own design. Only of hardware:
+    /// rule X2 has no such bit (Power ISA, 8.4.2).
+    ImplementationSpecific,
+    /// Bit 16: an instruction was fetched from a block that the transaction
+    /// has written. Only of hardware, as bit 15.
+    InstructionFetchConflict,
     /// Bit 31: tabort., tabortwc., tabortdc. or treclaim.; see
     /// [`Failure::code`].
     Abort,
     /// Bits 8 to 31, the lowest being bit 31, where they are not just one of
-    /// the bits above: none, several, or one that rule X2 does not name.
+    /// the bits above: none, several, or one without a name.
     Other(u32),
 }
 
@@ -101,8 +107,9 @@ pub struct Failure {
 const FS: u64 = 1 << (63 - 36);
 /// ROT and TL: all that TEXASR holds while a transaction has not failed.
 const ROT_AND_LEVEL: u64 = 1 << (63 - 38) | 0xFFF;
-/// The bits that rule X2 names: 0:14, 31, 32, 34:38, 52:63.
-const NAMED: u64 = 0xFFFE_0001_BE00_0FFF;
+/// The bits that have a name: 0:14, 31, 32, 34:38 and 52:63 by rule X2, 15 and
+/// 16 by the Power ISA.
+const NAMED: u64 = 0xFFFF_8001_BE00_0FFF;
 
 impl Texasr {
     /// Bit `n`, 0 to 63, where bit 0 is the highest.
@@ -135,6 +142,8 @@ impl Texasr {
             0x0008_0000 => Cause::NonTransactionalConflict,
             0x0004_0000 => Cause::TransactionConflict,
             0x0002_0000 => Cause::TranslationInvalidation,
+            0x0001_0000 => Cause::ImplementationSpecific,
+            0x0000_8000 => Cause::InstructionFetchConflict,
             0x0000_0001 => Cause::Abort,
             bits => Cause::Other(bits),
         }
@@ -175,7 +184,7 @@ impl Texasr {
         (self.0 & 0xFFF) as u16
     }
 
-    /// The bits set that rule X2 does not name.
+    /// The bits set that neither rule X2 nor the Power ISA names.
     pub const fn unnamed(self) -> u64 {
         self.0 & !NAMED
     }
@@ -198,10 +207,74 @@ impl Texasr {
     }
 }
 
+/// The failure codes of Linux on POWER, as its asm/tm.h names them.
+const LINUX_CODES: [(u8, &str); 10] = [
+    (0xE2, "TM_CAUSE_KVM_FAC_UNAV"),
+    (0xE0, "TM_CAUSE_KVM_RESCHED"),
+    (0xDE, "TM_CAUSE_RESCHED"),
+    (0xDC, "TM_CAUSE_TLBI"),
+    (0xDA, "TM_CAUSE_FAC_UNAV"),
+    (0xD8, "TM_CAUSE_SYSCALL"),
+    (0xD6, "TM_CAUSE_MISC"),
+    (0xD4, "TM_CAUSE_SIGNAL"),
+    (0xD2, "TM_CAUSE_ALIGNMENT"),
+    (0xD0, "TM_CAUSE_EMULATE"),
+];
+
 impl Failure {
     /// The code's lowest bit, bit 7 of TEXASR: the failure is said to last.
+    ///
+    /// By the rules it is 0 unless an abort's code set it (X5), also where
+    /// each further try fails in the same way. A retry policy that was written
+    /// for POWER wants [`persistent_by_isa`](Failure::persistent_by_isa).
     pub const fn persistent(&self) -> bool {
         self.code & 1 != 0
+    }
+
+    /// What the Power ISA puts into bit 7 for this cause.
+    ///
+    /// Its section 8.4.2, at bit 7, says: 1 for the causes of bits 8 to 11; for
+    /// an abort what the program gave; 0 for any other. That nesting overflow
+    /// is among the first goes by that section alone: tbegin. in 8.5 records it
+    /// with bit 7 at 0 (docs/DECISIONS.md). Bits 15 and 16 are passing, as 8.4.2
+    /// says at each. Where there is no single cause it is bit 7 as it stands.
+    ///
+    /// ```
+    /// use naszeptan::Texasr;
+    ///
+    /// let overflow = Texasr(0x0020_0000_1C00_0001).failure().unwrap();
+    /// assert!(!overflow.persistent());
+    /// assert!(overflow.persistent_by_isa());
+    /// ```
+    pub const fn persistent_by_isa(&self) -> bool {
+        match self.cause {
+            Cause::Disallowed
+            | Cause::NestingOverflow
+            | Cause::FootprintOverflow
+            | Cause::SelfInducedConflict => true,
+            Cause::NonTransactionalConflict
+            | Cause::TransactionConflict
+            | Cause::TranslationInvalidation
+            | Cause::ImplementationSpecific
+            | Cause::InstructionFetchConflict => false,
+            Cause::Abort | Cause::Other(_) => self.persistent(),
+        }
+    }
+
+    /// What Linux means by the code: its name in asm/tm.h. The code's lowest
+    /// bit is no part of the name (TM_CAUSE_PERSISTENT). A program may give the
+    /// same codes by its own tabort.
+    ///
+    /// ```
+    /// use naszeptan::Texasr;
+    ///
+    /// let failure = Texasr(0xDE00_0001_0C00_0001).failure().unwrap();
+    /// assert_eq!(failure.linux_code(), Some("TM_CAUSE_RESCHED"));
+    /// ```
+    pub fn linux_code(&self) -> Option<&'static str> {
+        let code = self.code & 0xFE;
+        let row = LINUX_CODES.iter().find(|(number, _)| *number == code);
+        row.map(|(_, name)| *name)
     }
 }
 
@@ -255,10 +328,12 @@ impl fmt::Display for Failure {
         write!(f, ", PR={}", u8::from(self.pr))?;
         write!(f, ", ROT={}", u8::from(self.rot))?;
         write!(f, ", code 0x{:02X}", self.code)?;
-        if self.persistent() {
-            f.write_str(" (persistent)")?;
+        match (self.linux_code(), self.persistent()) {
+            (None, false) => Ok(()),
+            (None, true) => f.write_str(" (persistent)"),
+            (Some(name), false) => write!(f, " (Linux: {name})"),
+            (Some(name), true) => write!(f, " (Linux: {name}, persistent)"),
         }
-        Ok(())
     }
 }
 
@@ -272,6 +347,8 @@ impl fmt::Display for Cause {
             Cause::NonTransactionalConflict => "non-transactional conflict",
             Cause::TransactionConflict => "transaction conflict",
             Cause::TranslationInvalidation => "translation invalidation",
+            Cause::ImplementationSpecific => "implementation-specific",
+            Cause::InstructionFetchConflict => "instruction fetch conflict",
             Cause::Abort => "abort",
             Cause::Other(0) => "no cause",
             Cause::Other(bits) => return write!(f, "no single cause (bits 8:31 are 0x{bits:06X})"),

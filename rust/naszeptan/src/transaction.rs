@@ -3,6 +3,7 @@
 use std::fmt;
 
 use crate::raw::{Entry, Lines, Transaction, PLACES};
+use crate::show::shown;
 
 impl Lines {
     /// The set of no lines.
@@ -96,14 +97,11 @@ impl Default for Transaction {
 /// of a broken one is hidden.
 impl fmt::Debug for Transaction {
     fn fmt(&self, f: &mut fmt::Formatter<'_>) -> fmt::Result {
-        let zero = Entry::default();
-        let last = self.log.iter().rposition(|e| *e != zero);
-        let shown = self.count.min(PLACES).max(last.map_or(0, |i| i + 1));
         f.debug_struct("Transaction")
             .field("reads", &self.reads)
             .field("writes", &self.writes)
             .field("count", &self.count)
-            .field("log", &&self.log[..shown])
+            .field("log", &shown(self))
             .finish()
     }
 }

@@ -4,6 +4,7 @@
 use std::collections::HashSet;
 
 use naszeptan::{raw, Answer, Ended, Event, Machine, State, Tape, Texasr, MEMORY, VERSION};
+use naszeptan::{SPR_TEXASR, SPR_TEXASRU, SPR_TFHAR, SPR_TFIAR};
 
 /// Steps a clone, which must be left as it was.
 fn refused(machine: &Machine, len: usize, thread: u8, event: Event, answer: Answer) {
@@ -24,6 +25,14 @@ fn begun() -> (Machine, Vec<u64>) {
 #[test]
 fn version() {
     assert_eq!(naszeptan::version(), VERSION);
+    // Cargo's version and the rules' in docs/RULES.md are the same story.
+    let (version, requests) = (VERSION >> 16, VERSION & 0xFFFF);
+    let ours = format!("{version}.{requests}.");
+    assert!(env!("CARGO_PKG_VERSION").starts_with(&ours), "{ours}");
+    let rules = include_str!("../../../docs/RULES.md");
+    assert!(rules.contains(&format!("Version of the rules: {version}.{requests}, ")));
+    let header = include_str!("../../../include/naszeptan.h");
+    assert!(header.contains(&format!("NASZEPTAN_VERSION UINT32_C(0x{VERSION:08X})")));
 }
 
 #[test]
@@ -238,4 +247,25 @@ fn answers() {
     assert_eq!(done.map(Answer::number).collect::<Vec<_>>(), [0, 20, 21]);
     let texts: HashSet<_> = Answer::ALL.iter().map(Answer::to_string).collect();
     assert_eq!(texts.len(), Answer::ALL.len());
+}
+
+/// The SPRs by their names, by what mfspr gives.
+#[test]
+fn special_registers() {
+    let (mut machine, mut memory) = (Machine::fresh(), vec![0; MEMORY]);
+    let control = &mut machine.threads[0].control;
+    control.tfhar = 0x10;
+    control.tfiar = 0x21;
+    control.texasr = Texasr(0x0008_0000_1800_0001);
+    let texasr = control.texasr.0;
+    for (spr, value) in [
+        (SPR_TFHAR, 0x10),
+        (SPR_TFIAR, 0x21),
+        (SPR_TEXASR, texasr),
+        (SPR_TEXASRU, texasr >> 32),
+    ] {
+        let answer = machine.step(&mut memory, 0, Event::Mfspr { rt: 9, spr });
+        assert_eq!(answer, Answer::Done);
+        assert_eq!(machine.threads[0].live.gpr[9], value);
+    }
 }

@@ -216,7 +216,7 @@ fn a_run_is_its_records_one_by_one() {
         };
         let (number, done) = run(&mut ran.m, &mut ran.mem, &tape);
         let mut b = Bench { m, mem };
-        if !tape.len().is_multiple_of(16) {
+        if tape.len() % 16 != 0 {
             assert_eq!((number, done), (6, 0));
             assert_eq!(ran, b);
             return;

@@ -270,7 +270,7 @@ fn mtspr(t: &mut Plain, spr: u8, ra: u8) {
 fn mfspr(t: &Plain, spr: u8) -> u64 {
     match spr {
         128 => t.tfhar,
-        129 if t.pr && t.tfiar.is_multiple_of(2) => 0,
+        129 if t.pr && t.tfiar % 2 == 0 => 0,
         129 => t.tfiar,
         130 => u64::from(t.cause) << 32 | u64::from(t.lower.join()),
         _ => u64::from(t.cause),
