@@ -146,7 +146,7 @@ fn record(bytes: &[u8], n: u32) {
     }
 }
 
-// A line for the record that stopped the run.
+// A line for the record that stopped the run. It stands on the tape: the two tests are there since no contract says so.
 fn stopped(input: &[u8], t: Told) {
     let from = t.count as usize * RECORD_SIZE;
     if input.len() < RECORD_SIZE {
