@@ -1,4 +1,4 @@
-// The program (rules P1 to P6): standard input is run on a fresh machine.
+// The program (rules P1 to P7): standard input is run on a fresh machine.
 fn main() {
     program::program();
 }
