@@ -4,9 +4,8 @@ use mathlib.Core.Bool.{Bool, true, false, cond}
 use mathlib.Core.List.{List, [], _∷_}
 use Prim.Native.Nat.{ℕ}
 use lib.Dec.{eqb}
-use lib.ListN.{length, getD}
-use lib.Seq.{sets}
-use Rattle.machine.specs.Valid.{machine-number, first-of}
+use lib.ListN.{length}
+use Rattle.machine.specs.Valid.{machine-number}
 use Rattle.machine.specs.declared.Machine.{Machine}
 use Rattle.refusal.specs.Refusal.{refusal}
 use Rattle.step.specs.Step.{Outcome, outcome, step}
@@ -18,14 +17,8 @@ use Rattle.tape.specs.declared.Read.the-variants.{Record}
 use Rattle.tape.proofs.Laws.{begun-right}
 use Rattle.laws_round.specs.Round.{FieldsFit}
 use Rattle.laws_round.proofs.Round.{sized, fields-back}
-use Rattle.run.specs.Run.{Result, goes-on, counted, one, play, reads, run}
-
--- what a run of one record tells: the number that ended it, else its record's answer, which stands in a buffer of one place
-abbrev pub told : Result → ℕ
-told r = first-of (r .ended .answer) (getD (sets (0 ∷ []) 0 (r .answers)) 0 0)
-
-abbrev pub lone : Result → Outcome
-lone r = outcome (told r) (r .ended .machine) (r .memory)
+use Rattle.run.specs.Run.{goes-on, counted, one, play, reads, run}
+use Rattle.host.specs.Inner.{left, lone}
 
 same : (b : Bool) (n : ℕ) → cond b n n ≡ n
 same true n = refl
@@ -36,7 +29,7 @@ module _ (m : Machine) (mem : List ℕ) (w : ℕ) (e : Event) where
   o = step m mem w e
 
   -- the record alone, by whether a run goes on after it
-  played : (b : Bool) → goes-on (o .done .answer) ≡ b → lone (play (Record w e ∷ []) 0 m mem) ≡ o
+  played : (b : Bool) → goes-on (o .done .answer) ≡ b → left (play (Record w e ∷ []) 0 m mem) ≡ o
   unfolding play one counted
   played true p = simp p
   played false p = simp (p, same (eqb (o .done .answer) 0) (o .done .answer))
@@ -52,10 +45,10 @@ unfolding bytes
 fields-read f fit = begun-right (bytes f) (sized f) refl ∙ ap (λ (g : Fields). of-kind g true) (fields-back f fit)
 
 pub run-of-one : (m : Machine) (mem : List ℕ) (f : Fields) (w : ℕ) (e : Event) → FieldsFit f → of-kind f true ≡ Record w e
-    → lone (run m mem (bytes f)) ≡ step m mem w e
+    → lone m mem f ≡ step m mem w e
 unfolding run reads bytes
 run-of-one m mem f w e fit p = go (eqb (machine-number m (length mem)) 0) refl
   where
-    go : (b : Bool) → eqb (machine-number m (length mem)) 0 ≡ b → lone (run m mem (bytes f)) ≡ step m mem w e
-    go true z = simp z (ap (λ (r : Read). lone (play (r ∷ []) 0 m mem)) (fields-read f fit ∙ p) ∙ played m mem w e _ refl)
+    go : (b : Bool) → eqb (machine-number m (length mem)) 0 ≡ b → lone m mem f ≡ step m mem w e
+    go true z = simp z (ap (λ (r : Read). left (play (r ∷ []) 0 m mem)) (fields-read f fit ∙ p) ∙ played m mem w e _ refl)
     go false z = simp z (refused m mem w e z)

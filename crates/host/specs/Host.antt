@@ -5,6 +5,7 @@ use mathlib.Core.List.{List}
 use lib.ListN.{length}
 use Rattle.base.specs.Answers as answer
 use Rattle.machine.specs.Valid.{sized, machine-number, first-of}
+use Rattle.machine.specs.declared.Machine.{Machine}
 use Rattle.step.specs.Step as events
 use Rattle.event.specs.Event.{fields, fields-of}
 use Rattle.event.specs.declared.Fields.{Fields}
@@ -14,6 +15,7 @@ use Rattle.tape.specs.declared.Read.the-variants.{Record, Refused}
 use Rattle.run.specs.Run as tape-run
 use Rattle.crossing.specs.Crossing.{right, machine-of, raw-machine}
 use Rattle.crossing.specs.declared.RawMachine.{RawMachine}
+use Rattle.host.specs.Failed.{failed}
 use Rattle.host.specs.declared.RawDone.{RawDone}
 use Rattle.host.specs.declared.RawEnded.{RawEnded}
 use Rattle.host.specs.declared.RawRecord.{RawRecord}
@@ -26,28 +28,31 @@ version = 0x00040001
 unfoldable pub number : RawMachine → ℕ → ℕ
 number m len = cond (right m) (machine-number (machine-of m) len) (cond (sized (machine-of m) len) answer.no-machine answer.size)
 
--- what a step leaves: its answer with the machine, and memory
+-- what a step leaves: its answer with the threads that failed and the machine, and memory
 pub record RawOutcome : Type 0 where
   pub done : RawDone
   pub memory : List ℕ
 
+-- where nothing was done no one failed
 abbrev pub outcome : ℕ → RawMachine → List ℕ → RawOutcome
-outcome n m mem = record { done = record { answer = n; machine = m }; memory = mem }
+outcome n m mem = record { done = record { answer = n; failed = 0; machine = m }; memory = mem }
 
-abbrev pub crossed : events.Outcome → RawOutcome
-crossed o = outcome (o .done .answer) (raw-machine (o .done .machine)) (o .memory)
+-- the outcome of an event by its fields on a machine
+abbrev pub crossed : Fields → Machine → events.Outcome → RawOutcome
+crossed f m o =
+    record { done = record { answer = o .done .answer; failed = failed f m (o .done); machine = raw-machine (o .done .machine) }; memory = o .memory }
 
 -- the event of fields on a machine: 1 and 2 come before 8 and 9, which come before the rest
-abbrev pub met : Read → RawMachine → List ℕ → RawOutcome
-met (Refused n) m mem = outcome (first-of (number m (length mem)) n) m mem
-met (Record w e) m mem = cond (right m) (crossed (events.step (machine-of m) mem w e)) (outcome (number m (length mem)) m mem)
+abbrev pub met : Fields → Read → RawMachine → List ℕ → RawOutcome
+met f (Refused n) m mem = outcome (first-of (number m (length mem)) n) m mem
+met f (Record w e) m mem = cond (right m) (crossed f (machine-of m) (events.step (machine-of m) mem w e)) (outcome (number m (length mem)) m mem)
 
 -- fields are judged as a record's are
 abbrev pub event-read : Fields → Read
 event-read f = tape.of-kind f true
 
 unfoldable pub step : RawMachine → List ℕ → Fields → RawOutcome
-step m mem f = met (event-read f) m mem
+step m mem f = met f (event-read f) m mem
 
 -- what a run leaves: its answer and count with the machine, and memory
 pub record RawResult : Type 0 where

@@ -1,9 +1,12 @@
 // What a host calls. No contract asks anything of the caller but that a pointer and its length are true.
 ghost use mathlib.Core.Path.{_≡_};
+ghost use mathlib.Core.List.{List};
+ghost use Prim.Native.Nat.{ℕ};
 ghost use Rattle.machine.specs.Machine.{fresh};
 ghost use Rattle.machine.specs.Valid.{first-of};
 ghost use Rattle.crossing.specs.Crossing.{raw-machine};
-ghost use Rattle.host.specs.Host.{version, number, step, run, read, write-answer, write};
+ghost use Rattle.host.specs.Host.{version, number, outcome, step, run, read, write-answer, write};
+ghost use Rattle.host.specs.Inner.{lone};
 use crate::RawDone;
 use crate::RawEnded;
 use crate::RawRecord;
@@ -11,6 +14,8 @@ use crate::VERSION;
 use base::answer;
 use crossing::RawMachine;
 use event::Fields;
+use machine::Machine;
+use step::Done;
 use tape::Read;
 
 // The version of the rules.
@@ -52,8 +57,33 @@ fn first_of(k: u8, n: u8) -> u8
     k
 }
 
-// One event. Fields that are no event are refused after 1 and 2. An event is run as a tape of one record: the archive then has one caller of
-// the step on rows, the run (docs/PERFORMANCE.md).
+// Nothing was done, and no one failed.
+fn untouched(answer: u8, m: RawMachine) -> RawDone
+    ensures { λ r. ⌜ ((mem : List ℕ) → r ≡ outcome answer m mem .done) ⌝ }
+{
+    RawDone {
+        answer,
+        failed: 0,
+        machine: m,
+    }
+}
+
+// An event is run as a tape of one record: the archive then has one caller of the step on rows, the run (docs/PERFORMANCE.md).
+fn lone(m: Machine, mem: &mut [u64], e: Fields) -> Done
+    ensures { λ r. ⌜ r ≡ lone m (now (mem .entry)) e .done ⌝ }
+    ensures { λ r. ⌜ now (mem .exit) ≡ lone m (now (mem .entry)) e .memory ⌝ }
+{
+    let record = tape::writer::bytes(e);
+    let mut answers = [0; 1];
+    let ended = run::run(m, mem, &record, &mut answers);
+    let machine = ended.machine;
+    Done {
+        answer: first_of(ended.answer, answers[0]),
+        machine,
+    }
+}
+
+// One event. Fields that are no event are refused after 1 and 2.
 #[no_mangle]
 pub extern "C" fn naszeptan_step(m: RawMachine, mem: &mut [u64], e: Fields) -> RawDone
     ensures { λ r. ⌜ r ≡ step m (now (mem .entry)) e .done ⌝ }
@@ -66,23 +96,17 @@ pub extern "C" fn naszeptan_step(m: RawMachine, mem: &mut [u64], e: Fields) -> R
         event: _,
     } = found
     else {
-        return RawDone {
-            answer: first_of(naszeptan_valid(m, len), tape::number(found)),
-            machine: m,
-        };
+        return untouched(first_of(naszeptan_valid(m, len), tape::number(found)), m);
     };
     if !crossing::right(m) {
-        return RawDone {
-            answer: naszeptan_valid(m, len),
-            machine: m,
-        };
+        return untouched(naszeptan_valid(m, len), m);
     }
-    let record = tape::writer::bytes(e);
-    let mut answers = [0; 1];
-    let ended = run::run(crossing::machine_of(m), mem, &record, &mut answers);
+    let before = crossing::machine_of(m);
+    let done = lone(before, mem, e);
     RawDone {
-        answer: first_of(ended.answer, answers[0]),
-        machine: crossing::raw_machine(ended.machine),
+        answer: done.answer,
+        failed: crate::failed::failed(e, before, done),
+        machine: crossing::raw_machine(done.machine),
     }
 }
 

@@ -1,5 +1,6 @@
 // The entry points for C and Rust hosts (include/naszeptan.h). A machine crosses by value as plain numbers, so any bits may be handed in.
 pub mod entries;
+pub mod failed;
 
 use crossing::RawMachine;
 use event::Fields;
@@ -7,10 +8,11 @@ use event::Fields;
 // The version of the rules: the model's version above, the landed change requests below.
 pub const VERSION: u32 = 0x0004_0001;
 
-// A step's answer and the machine after it.
+// A step's answer, the threads that failed in it (rule H8: bit v for thread v), and the machine after it.
 #[repr(C)]
 pub struct RawDone {
     pub answer: u8,
+    pub failed: u8,
     pub machine: RawMachine,
 }
 

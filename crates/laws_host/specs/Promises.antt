@@ -2,18 +2,22 @@
 use mathlib.Core.Path.{_≡_}
 use mathlib.Core.Bool.{true, false}
 use mathlib.Core.List.{List}
-use Prim.Native.Nat.{ℕ, _≤_}
+use Prim.Native.Nat.{ℕ, _/_, _%_, _^_, _≤_, _<_}
 use lib.ListN.{length, take, drop}
+use Rattle.base.specs.Below.{bit}
 use Rattle.base.specs.Limits.{most-threads}
 use Rattle.event.specs.Event.{fields-of}
 use Rattle.event.specs.declared.Event.{Event}
 use Rattle.event.specs.declared.Fields.{Fields}
 use Rattle.machine.specs.Valid.{sized}
+use Rattle.machine.specs.declared.Machine.{Machine}
+use Rattle.step.specs.declared.Done.{Done}
 use Rattle.tape.specs.Tape.{record-size}
 use Rattle.tape.specs.declared.Read.the-variants.{Record}
 use Rattle.laws_round.specs.Round.{FieldsFit, Bytes}
 use Rattle.run.specs.Run.{goes-on}
 use Rattle.crossing.specs.Crossing.{right, machine-of}
+use Rattle.host.specs.Failed.{fails, failed}
 use Rattle.host.specs.Host.{outcome, event-read, step, result, run, read, write-answer, write}
 use Rattle.crossing.specs.declared.RawMachine.{RawMachine}
 
@@ -23,11 +27,17 @@ NoMachine =
     (m : RawMachine) (mem : List ℕ) → right m ≡ false → sized (machine-of m) (length mem) ≡ true
     → ((f : Fields) → step m mem f ≡ outcome 2 m mem) × ((bytes : List ℕ) → run m mem bytes ≡ result 2 0 m mem)
 
--- a refused event leaves the host's bits and memory untouched
+-- a refused event leaves the host's bits and memory untouched, and no one failed
 abbrev pub StopChangesNothing : Type 0
 StopChangesNothing =
     (m : RawMachine) (mem : List ℕ) (f : Fields) → length (m .threads) ≡ most-threads
-    → goes-on (step m mem f .done .answer) ≡ false → (step m mem f .done .machine ≡ m) × (step m mem f .memory ≡ mem)
+    → goes-on (step m mem f .done .answer) ≡ false
+    → (step m mem f .done .machine ≡ m) × (step m mem f .memory ≡ mem) × (step m mem f .done .failed ≡ 0)
+
+-- the mask has a bit for each thread: whether it failed
+abbrev pub FailedEach : Type 0
+FailedEach =
+    (f : Fields) (m : Machine) (d : Done) (v : ℕ) → v < most-threads → failed f m d / 2 ^ v % 2 ≡ bit (fails f m d v)
 
 -- every event has fields that are read as it
 abbrev pub EventCrosses : Type 0

@@ -3,7 +3,7 @@ use mathlib.Core.Path.{sym, ap, _∙_}
 use Rattle.base.proofs.Below.{flag-true, flag-false}
 use Rattle.step.specs.Step.{Outcome}
 use Rattle.laws_round.specs.Round.{FieldsFit}
-use Rattle.crossing.specs.Crossing.{machine-of, raw-machine}
+use Rattle.crossing.specs.Crossing.{machine-of}
 use Rattle.host.specs.Host.{crossed, step}
 use Rattle.host.proofs.Laws.{run-of-one}
 use borrow.Author.Needs.{needs}
@@ -28,13 +28,18 @@ number-requires c κs = search needs
 first-of-requires : tie.Need-first-of-requires
 first-of-requires c κs = search needs
 
+untouched-requires : tie.Need-untouched-requires
+untouched-requires c κs = search needs
+
 returns : tie.Need-returns
 unfolding step
 returns c =
-    let v = c .before .before in
+    let n = c .before .before in
+    let v = n .before in
     let e = v .before in
-    let p = sym (e .before .before .of-kind .ensures) ∙ e .enum-told2 .given .1 in
-    (simp (c .first-of .ensures, v .naszeptan-valid .ensures, c .before .number .ensures, e .enum-told2 .given .1, p), simp p)
+    let k = e .before .before in
+    let p = sym (k .of-kind .ensures) ∙ e .enum-told2 .given .1 in
+    (simp (c .untouched .ensures (k .before .before .args .mem .now), c .before .first-of .ensures, v .naszeptan-valid .ensures, n .number .ensures, e .enum-told2 .given .1, p), simp p)
 
 right-requires : tie.Need-right-requires
 right-requires c κs = search needs
@@ -42,35 +47,28 @@ right-requires c κs = search needs
 naszeptan-valid-requires-2 : tie.Need-naszeptan-valid-requires-2
 naszeptan-valid-requires-2 c κs = search needs
 
+untouched-requires-2 : tie.Need-untouched-requires-2
+untouched-requires-2 c κs = search needs
+
 returns-2 : tie.Need-returns-2
 unfolding step
 returns-2 c =
-    let t = c .before in
+    let v = c .before in
+    let t = v .before in
     let e = t .before .before in
-    let p = sym (e .before .before .of-kind .ensures) ∙ e .enum-told .given .1 in
+    let k = e .before .before in
+    let p = sym (k .of-kind .ensures) ∙ e .enum-told .given .1 in
     let r = flag-false (t .before .right .ensures) (t .if1 .taken) in
-    (simp (c .naszeptan-valid2 .ensures, p, r), simp (p, r))
-
-bytes-requires : tie.Need-bytes-requires
-bytes-requires c κs = search needs
+    (simp (c .untouched2 .ensures (k .before .before .args .mem .now), v .naszeptan-valid2 .ensures, p, r), simp (p, r))
 
 machine-of-requires : tie.Need-machine-of-requires
 machine-of-requires c κs = search needs
 
-slice-aggregate-run : tie.Need-slice-aggregate-run
-slice-aggregate-run c = search needs
+lone-requires : tie.Need-lone-requires
+lone-requires c κs = search needs
 
-slice-aggregate-run-2 : tie.Need-slice-aggregate-run-2
-slice-aggregate-run-2 c = search needs
-
-run-requires : tie.Need-run-requires
-run-requires c κs = search needs
-
-array-read-first-of : tie.Need-array-read-first-of
-array-read-first-of c = search needs
-
-first-of-requires-2 : tie.Need-first-of-requires-2
-first-of-requires-2 c κs = search needs
+failed-requires : tie.Need-failed-requires
+failed-requires c κs = search needs
 
 raw-machine-requires : tie.Need-raw-machine-requires
 raw-machine-requires c κs = search needs
@@ -94,18 +92,18 @@ fits c =
 returns-3 : tie.Need-returns-3
 unfolding step
 returns-3 c =
-    let w = c .before in
-    let r = w .before .before .before .before in
-    let o = r .before .before .before .before in
-    let b = o .before in
-    let t = b .before in
+    let f = c .before in
+    let l = f .before .before .before in
+    let o = l .before .before in
+    let t = o .before in
     let e = t .before .before in
     let k = e .before .before in
     let s = k .before .before in
     let p = sym (k .of-kind .ensures) ∙ e .enum-told .given .1 in
     let g = flag-true (t .before .right .ensures) (t .if1 .left) in
-    let law = run-of-one (machine-of (s .args .m)) (s .args .mem .now) (s .args .e) _ _ (fits s) p in
-    (simp (c .raw-machine .ensures, w .first-of2 .ensures, r .run .ensures .0, r .run .ensures .1 .1, o .machine-of .ensures, b .bytes .ensures, p, g) (ap (λ (x : Outcome). crossed x .done) law), simp (r .run .ensures .1 .0, o .machine-of .ensures, b .bytes .ensures, p, g) (ap (λ (x : Outcome). x .memory) law))
+    let m = machine-of (s .args .m) in
+    let law = run-of-one m (s .args .mem .now) (s .args .e) _ _ (fits s) p in
+    (simp (c .raw-machine .ensures, f .failed .ensures, l .lone .ensures .0, o .machine-of .ensures, p, g) (ap (λ (x : Outcome). crossed (s .args .e) m x .done) law), simp (l .lone .ensures .1, o .machine-of .ensures, p, g) (ap (λ (x : Outcome). x .memory) law))
 
 pub naszeptan-step-spec : {M : Type 1} → statement M
 naszeptan-step-spec =
@@ -117,17 +115,15 @@ naszeptan-step-spec =
     naszeptan-valid-requires
     number-requires
     first-of-requires
+    untouched-requires
     returns
     right-requires
     naszeptan-valid-requires-2
+    untouched-requires-2
     returns-2
-    bytes-requires
     machine-of-requires
-    slice-aggregate-run
-    slice-aggregate-run-2
-    run-requires
-    array-read-first-of
-    first-of-requires-2
+    lone-requires
+    failed-requires
     raw-machine-requires
     same-length
     returns-3)
