@@ -15,6 +15,7 @@ _Static_assert(sizeof(struct naszeptan_thread) == 1672, "thread");
 _Static_assert(sizeof(struct naszeptan_machine) == 6696, "machine");
 _Static_assert(sizeof(struct naszeptan_event) == 16, "event");
 _Static_assert(sizeof(struct naszeptan_done) == 6704, "done");
+_Static_assert(offsetof(struct naszeptan_done, failed) == 1, "failed");
 _Static_assert(sizeof(struct naszeptan_ended) == 6712, "ended");
 _Static_assert(sizeof(struct naszeptan_record) == 20, "record");
 
@@ -83,13 +84,15 @@ static struct naszeptan_event store(uint8_t thread, uint8_t ra,
   return e;
 }
 
-/* The event is refused by the number; machine and memory stay. */
+/* The event is refused by the number; machine and memory stay, and no one has
+ * failed. */
 static void refused(struct naszeptan_machine m, size_t len,
                     struct naszeptan_event e, uint8_t number) {
   static uint64_t before[NASZEPTAN_MEMORY];
   memcpy(before, memory, sizeof memory);
   struct naszeptan_done done = naszeptan_step(m, memory, len, e);
   CHECK(done.answer == number);
+  CHECK(done.failed == 0);
   CHECK(same_machine(&done.machine, &m));
   CHECK(memcmp(before, memory, sizeof memory) == 0);
 }
@@ -180,6 +183,103 @@ static void conflict(void) {
   memory[0] = 0;
 }
 
+/* The machine that the checks of failed go on with. */
+static struct naszeptan_machine desk;
+
+/* The event gives this answer and has failed these threads. */
+static void fails(struct naszeptan_event e, uint8_t answer, uint8_t failed) {
+  struct naszeptan_done done =
+      naszeptan_step(desk, memory, NASZEPTAN_MEMORY, e);
+  CHECK(done.answer == answer);
+  CHECK(done.failed == failed);
+  desk = done.machine;
+}
+
+/* The event is done and fails no one. */
+static void spares(struct naszeptan_event e) { fails(e, NASZEPTAN_DONE, 0); }
+
+static struct naszeptan_event flagged(uint8_t kind, uint8_t flags) {
+  struct naszeptan_event e = event(kind, 0);
+  e.flags = flags;
+  return e;
+}
+
+/* A fresh machine with thread 0 in a transaction, privileged. */
+static void begun(void) {
+  desk = naszeptan_fresh();
+  desk.threads[0].control.pr = 0;
+  spares(event(NASZEPTAN_TBEGIN, 0));
+}
+
+/* docs/RULES.md, H8: a thread's own failures. */
+static void failed_itself(void) {
+  const struct naszeptan_event tabort = event(NASZEPTAN_TABORT, 0);
+  const struct naszeptan_event tsuspend = flagged(NASZEPTAN_TSR, 0);
+  const struct naszeptan_event tresume = flagged(NASZEPTAN_TSR, 1);
+  const struct naszeptan_event treclaim = event(NASZEPTAN_TRECLAIM, 0);
+  begun();
+  fails(load(0, 32, 0), NASZEPTAN_OPERAND, 0);
+  fails(tabort, NASZEPTAN_HANDLED, 1);
+  spares(tabort); /* outside a transaction */
+  spares(event(NASZEPTAN_TBEGIN, 3));
+  fails(event(NASZEPTAN_DISALLOWED, 3), NASZEPTAN_HANDLED, 8);
+  /* In S it is told when it is recorded, and again when it is handled. */
+  begun();
+  spares(tsuspend);
+  fails(tabort, NASZEPTAN_RECORDED, 1);
+  spares(tabort); /* FS is 1: nothing is recorded */
+  fails(tresume, NASZEPTAN_HANDLED, 1);
+  /* A reclaim is told of a live transaction, in T and in S. */
+  begun();
+  fails(treclaim, NASZEPTAN_DONE, 1);
+  begun();
+  spares(tsuspend);
+  fails(treclaim, NASZEPTAN_DONE, 1);
+  /* Of a doomed one it is not, for that was told before. */
+  begun();
+  spares(tsuspend);
+  fails(tabort, NASZEPTAN_RECORDED, 1);
+  spares(treclaim);
+}
+
+/* A commit is no failure: at level 1, and of all levels at once. */
+static void failed_by_no_commit(void) {
+  begun();
+  spares(event(NASZEPTAN_TBEGIN, 1));
+  spares(load(1, 4, 0));
+  spares(store(0, 4, 16));
+  spares(event(NASZEPTAN_TEND, 0));
+  CHECK(desk.threads[0].control.state == NASZEPTAN_N);
+  CHECK(desk.threads[1].control.state == NASZEPTAN_T);
+  begun();
+  spares(event(NASZEPTAN_TBEGIN, 0));
+  spares(flagged(NASZEPTAN_TEND, 1));
+  CHECK(desk.threads[0].control.state == NASZEPTAN_N);
+}
+
+/* Others, of whom the answer says nothing. */
+static void failed_others(void) {
+  begun();
+  spares(load(0, 4, 0));
+  spares(event(NASZEPTAN_TBEGIN, 2));
+  spares(load(2, 4, 1));
+  struct naszeptan_event suspends = flagged(NASZEPTAN_TSR, 0);
+  suspends.thread = 2;
+  spares(suspends);
+  fails(store(1, 5, 2), NASZEPTAN_DONE, 1 + 4);
+  CHECK(desk.threads[0].control.state == NASZEPTAN_N);
+  CHECK(desk.threads[2].control.doomed == 1);
+  spares(store(1, 5, 2));
+  /* A store in S to a line of its own and of all others. */
+  desk = naszeptan_fresh();
+  for (uint8_t t = 0; t < NASZEPTAN_THREADS; t++) {
+    spares(event(NASZEPTAN_TBEGIN, t));
+    spares(load(t, 4, 0));
+  }
+  spares(flagged(NASZEPTAN_TSR, 0));
+  fails(store(0, 5, 0), NASZEPTAN_RECORDED, 15);
+}
+
 /* Each flag of TEXASR is its bit and no other; wider fields by a value. */
 static void fields(void) {
   for (int n = 0; n < 64; n++) {
@@ -268,6 +368,9 @@ int main(void) {
   bits();
   refusals();
   conflict();
+  failed_itself();
+  failed_by_no_commit();
+  failed_others();
   fields();
   special_registers();
   records();

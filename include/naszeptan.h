@@ -250,9 +250,22 @@ struct naszeptan_event {
   uint16_t si;
 };
 
-/* A step's answer, and the machine after it. */
+/* A step's answer, which threads failed in its event, and the machine after
+ * it. Bit v of failed, counted from the lowest (failed >> v & 1), stands for
+ * thread v, by docs/RULES.md, H8. It is 1
+ * - for the event's own thread where the answer is 20, and
+ * - for each thread that had a live transaction before the event and has none
+ *   after it, unless the event is that thread's own tend., which commits.
+ * All other bits are 0, and a refused event has failed == 0. A transaction is
+ * live in T, and in S with doomed == 0.
+ *
+ * So failed tells of other threads too, of which the answer says nothing: a
+ * store may answer 0 and have failed three. A failure recorded in S is told
+ * then, and once more when tresume handles it. treclaim. of a live transaction
+ * is told; of a doomed one it is not, since that was told when it failed. */
 struct naszeptan_done {
   uint8_t answer;
+  uint8_t failed;
   struct naszeptan_machine machine;
 };
 
@@ -285,7 +298,8 @@ struct naszeptan_machine naszeptan_fresh(void);
 uint8_t naszeptan_valid(struct naszeptan_machine machine, size_t len);
 
 /* One event. Refused by 1, 2, 8, 9, 3, 4, 5, 11, 12, 13: the first that
- * applies in this order. */
+ * applies in this order. What is given back also tells which threads failed,
+ * this one or others: see struct naszeptan_done. A run does not tell it. */
 struct naszeptan_done naszeptan_step(struct naszeptan_machine machine,
                                      uint64_t *memory, size_t len,
                                      struct naszeptan_event event);

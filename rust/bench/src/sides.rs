@@ -103,7 +103,7 @@ impl Side for Proved {
     }
 
     fn step(&mut self, e: raw::Event) -> u8 {
-        Archive.step(&mut self.machine, &mut self.memory, e)
+        Archive.step(&mut self.machine, &mut self.memory, e).answer
     }
 
     fn valid(&self) -> u8 {

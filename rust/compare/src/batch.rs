@@ -116,7 +116,10 @@ fn sequence<S: Side>(
         let before = Before::of(pair.machine(), e.thread);
         let sights = seen(pair.machine(), e);
         match pair.step(side, e) {
-            Ok(answer) => counts.event(e.kind, before, answer, sights),
+            Ok(done) => {
+                counts.event(e.kind, before, done.answer, sights);
+                counts.failed(e, before, done);
+            }
             Err(_) => {
                 return Err(Found::Tape(Case {
                     start,

@@ -2,7 +2,7 @@
 //! no machine, which the model cannot hold.
 
 use model::gen::{self, Rng};
-use model::step_trusted;
+use model::{step_trusted, Done};
 use naszeptan::raw;
 
 use crate::batch::Found;
@@ -101,7 +101,11 @@ fn no_machine<S: Side>(side: &S, rng: &mut Rng, counts: &mut Counts) -> Result<(
     let e = damaged(rng, &m, memory.len());
     let (mut after, mut lent) = (bits, memory.clone());
     let given = side.step(&mut after, &mut lent, e);
-    same(|| input("step"), (right, bits), (given, after))?;
+    same(
+        || input("step"),
+        (Done::refused(right), bits),
+        (given, after),
+    )?;
     same(|| input("step, memory"), &memory, &lent)?;
     counts.call(Call::BitsStep, right);
 

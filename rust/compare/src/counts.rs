@@ -2,16 +2,18 @@
 
 use std::fmt::Write;
 
-use naszeptan::{Kind, KINDS};
+use model::Done;
+use naszeptan::{raw, Kind, KINDS};
 
 use crate::cells::{self, Before, Call, CALLS, CALL_ROWS, NUMBERS, SHOWN, STATES};
+use crate::masks::{self, Mask, MASKS};
 use crate::sights;
 
 /// From so many events on, all that can be met must be. Of a quarter of them the
 /// rarest are met three to five times, so that fewer may miss one by chance.
 pub const ALL_MET_FROM: u64 = 1_000_000;
 
-/// How often one cell, sight or call was met, and why it cannot be, if so.
+/// How often one cell, mask, sight or call was met, and why it cannot be, if so.
 struct Row {
     met: u64,
     name: String,
@@ -23,6 +25,8 @@ struct Row {
 pub struct Counts {
     /// Events compared, by kind (0 for none), state and answer.
     cells: Vec<[[u64; NUMBERS]; STATES]>,
+    /// The same events, by kind, state (none if refused) and who failed.
+    masks: Vec<[[u64; MASKS]; STATES]>,
     sights: [u64; sights::SIGHTS],
     calls: [[u64; NUMBERS]; CALLS],
     /// Records done by runs.
@@ -33,11 +37,17 @@ impl Default for Counts {
     fn default() -> Counts {
         Counts {
             cells: vec![[[0; NUMBERS]; STATES]; KINDS.len() + 1],
+            masks: vec![[[0; MASKS]; STATES]; KINDS.len() + 1],
             sights: [0; sights::SIGHTS],
             calls: [[0; NUMBERS]; CALLS],
             records: 0,
         }
     }
+}
+
+/// The place of a kind. Those that are none share the first.
+fn kind_place(kind: u8) -> usize {
+    Kind::of(kind).map_or(0, |_| kind.into())
 }
 
 /// The place of a number. Those past 21 share the last, which no table allows.
@@ -48,17 +58,26 @@ fn place(answer: u8) -> usize {
 impl Counts {
     /// One event on which both sides agreed, and its sights.
     pub fn event(&mut self, kind: u8, before: Before, answer: u8, sights: u64) {
-        let kind = if Kind::of(kind).is_none() { 0 } else { kind };
         let before = match answer {
             1 | 2 | 3 | 8 | 9 => Before::Nobody,
             _ => before,
         };
-        self.cells[usize::from(kind)][before as usize][place(answer)] += 1;
+        self.cells[kind_place(kind)][before as usize][place(answer)] += 1;
         if model::answer::is_done(answer) {
             for (bit, count) in self.sights.iter_mut().enumerate() {
                 *count += sights >> bit & 1;
             }
         }
+    }
+
+    /// Who failed in that event.
+    pub fn failed(&mut self, e: raw::Event, before: Before, done: Done) {
+        let before = match model::answer::is_done(done.answer) {
+            true => before,
+            false => Before::Nobody,
+        };
+        let mask = Mask::of(e.thread, done.failed);
+        self.masks[kind_place(e.kind)][before as usize][mask.place()] += 1;
     }
 
     /// One call on which both sides agreed.
@@ -70,6 +89,7 @@ impl Counts {
     pub fn numbers(&self) -> Vec<u64> {
         let cells = self.cells.as_flattened().as_flattened().iter();
         cells
+            .chain(self.masks.as_flattened().as_flattened())
             .chain(&self.sights)
             .chain(self.calls.as_flattened())
             .chain([&self.records])
@@ -81,6 +101,7 @@ impl Counts {
     pub fn add(&mut self, numbers: impl IntoIterator<Item = u64>) {
         let cells = self.cells.as_flattened_mut().as_flattened_mut().iter_mut();
         cells
+            .chain(self.masks.as_flattened_mut().as_flattened_mut())
             .chain(&mut self.sights)
             .chain(self.calls.as_flattened_mut())
             .chain([&mut self.records])
@@ -121,7 +142,7 @@ impl Counts {
             .collect()
     }
 
-    /// Every cell, sight and call.
+    /// Every cell, mask, sight and call.
     fn all(&self) -> impl Iterator<Item = Row> + '_ {
         let sights = self.sights.iter().zip(&sights::ALL);
         let sights = sights.map(|(&met, (_, name, _))| Row {
@@ -129,7 +150,29 @@ impl Counts {
             name: name.to_string(),
             why_not: None,
         });
-        self.all_cells().chain(sights).chain(self.all_calls())
+        self.all_cells()
+            .chain(self.all_masks())
+            .chain(sights)
+            .chain(self.all_calls())
+    }
+
+    fn all_masks(&self) -> impl Iterator<Item = Row> + '_ {
+        let kinds = (0u8..).zip(&self.masks);
+        let states = kinds.flat_map(|(kind, states)| {
+            Before::ALL.map(|before| (kind, before, &states[before as usize]))
+        });
+        states.flat_map(|(kind, before, met)| {
+            Mask::all().map(|mask| Row {
+                met: met[mask.place()],
+                name: format!(
+                    "{}, {}, failed: {}",
+                    cells::name(kind),
+                    before.name(),
+                    mask.name()
+                ),
+                why_not: masks::why_not(kind, before, mask),
+            })
+        })
     }
 
     fn all_cells(&self) -> impl Iterator<Item = Row> + '_ {
@@ -157,11 +200,12 @@ impl Counts {
         })
     }
 
-    /// The three tables. A dot is a cell that cannot be met.
+    /// The four tables. A dot is a cell that cannot be met.
     pub fn tables(&self) -> String {
         let mut text = String::new();
         // Writing to a string does not fail.
         let _ = self.write_cells(&mut text);
+        let _ = self.write_masks(&mut text);
         let _ = self.write_calls(&mut text);
         let _ = writeln!(text, "\nsituations met");
         for (met, (_, name, _)) in self.sights.iter().zip(&sights::ALL) {
@@ -186,6 +230,34 @@ impl Counts {
                 write!(text, "{:11}{:11}", cells::name(kind), before.name())?;
                 for answer in SHOWN {
                     write_cell(text, met[usize::from(answer)], can(answer))?;
+                }
+                writeln!(text)?;
+            }
+        }
+        Ok(())
+    }
+
+    /// Rows of which someone can fail.
+    fn write_masks(&self, text: &mut String) -> std::fmt::Result {
+        write!(
+            text,
+            "\nevents done, by kind, state before and who failed\n{:22}",
+            ""
+        )?;
+        for mask in Mask::all() {
+            write!(text, "{:>9}", mask.name())?;
+        }
+        writeln!(text)?;
+        for (kind, states) in (0u8..).zip(&self.masks) {
+            for before in Before::ALL {
+                let can = |mask| masks::why_not(kind, before, mask).is_none();
+                if !Mask::all().into_iter().skip(1).any(can) {
+                    continue;
+                }
+                write!(text, "{:11}{:11}", cells::name(kind), before.name())?;
+                for mask in Mask::all() {
+                    write!(text, " ")?;
+                    write_cell(text, states[before as usize][mask.place()], can(mask))?;
                 }
                 writeln!(text)?;
             }

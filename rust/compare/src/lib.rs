@@ -1,12 +1,13 @@
 //! The proved machine held to the second model. Random machines and random
-//! events go to both sides; after every event the answer, the memory and every
-//! field of the machine are compared.
+//! events go to both sides; after every event the answer, the threads that
+//! failed, the memory and every field of the machine are compared.
 //!
 //! - [`sides`]: the two sides, and an event of the header as the model's.
 //! - [`pair`]: a machine on both sides, and where the two differ.
 //! - [`start`]: the machines that a sequence starts from.
 //! - [`plan`]: which event comes next.
 //! - [`cells`]: which answers can be met where, by hand from docs/RULES.md.
+//! - [`masks`]: who can fail in which event, by hand from there too.
 //! - [`sights`]: situations that must be met beside those.
 //! - [`counts`]: how often each was met, and what was not.
 //! - [`batch`]: a numbered piece of the comparison, and a worker's share.
@@ -21,6 +22,7 @@ pub mod batch;
 pub mod calls;
 pub mod cells;
 pub mod counts;
+pub mod masks;
 pub mod pair;
 pub mod plan;
 pub mod shrink;

@@ -1,6 +1,6 @@
 //! One machine with its memory on both sides, and where the two differ.
 
-use model::{Machine, Registers, State, Thread};
+use model::{Done, Machine, Registers, State, Thread};
 use naszeptan::raw;
 
 use crate::sides::{model_step, Side};
@@ -45,13 +45,19 @@ impl Pair {
         &self.memory
     }
 
-    /// One event on both sides: the answer, or where they differ.
-    pub fn step<S: Side>(&mut self, side: &S, e: raw::Event) -> Result<u8, String> {
+    /// One event on both sides: the answer and who failed, or where they
+    /// differ.
+    pub fn step<S: Side>(&mut self, side: &S, e: raw::Event) -> Result<Done, String> {
         let ours = model_step(&mut self.model, &mut self.memory, e);
         let lent = &mut self.lent[BESIDE..BESIDE + self.memory.len()];
         let theirs = side.step(&mut self.raw, lent, e);
-        if ours != theirs {
+        if ours.answer != theirs.answer {
+            let (ours, theirs) = (ours.answer, theirs.answer);
             return Err(format!("answer: model {ours}, proved {theirs}"));
+        }
+        if ours.failed != theirs.failed {
+            let (ours, theirs) = (ours.failed, theirs.failed);
+            return Err(format!("failed: model {ours:04b}, proved {theirs:04b}"));
         }
         self.agree().map(|()| ours)
     }

@@ -124,13 +124,14 @@ fn scene(rng: &mut Rng, m: &Machine, len: usize) -> Vec<(u8, Event)> {
     };
     let r = rng.one_in(4);
     let begin = Event::Tbegin { r };
-    match rng.below(7) {
+    match rng.below(8) {
         0 => full_log(&stage, begin),
         1 => full_footprint(rng, &stage, begin),
         2 => alone(me, (0..16).map(|_| begin)),
         3 => nested(rng, me, begin),
         4 => doomed(rng, &stage, begin),
         5 => reclaimed(rng, &stage, begin),
+        6 => shared(rng, &stage, count as u8),
         _ => overwritten(rng, &stage, begin),
     }
 }
@@ -219,6 +220,40 @@ fn reclaimed(rng: &mut Rng, stage: &Stage, begin: Event) -> Vec<(u8, Event)> {
             Event::Tsr { l: true },
         ],
     )
+}
+
+/// All threads read one line, and then one of them stores to it, so that all
+/// others fail in one event: the storer as it stood, or in T, in S or doomed,
+/// with the line in its own sets or not.
+fn shared(rng: &mut Rng, stage: &Stage, count: u8) -> Vec<(u8, Event)> {
+    let index = stage.index(0, rng.below(LINE));
+    // Into T from any state but that of a full transaction.
+    let (pr, tm) = (rng.flag(), true);
+    let enter = [
+        Event::Host { pr, tm },
+        Event::Tsr { l: true },
+        Event::Tbegin { r: false },
+    ];
+    let load = Event::Ld { rt: 6, index };
+    let (suspend, abort) = (Event::Tsr { l: false }, Event::Tabort { ra: 0 });
+    let mut mine = match rng.below(4) {
+        0 => Vec::new(),
+        _ => enter.to_vec(),
+    };
+    mine.extend(rng.flag().then_some(load));
+    let ways: [&[Event]; 4] = [&[], &[suspend], &[suspend], &[suspend, abort]];
+    mine.extend(rng.pick(ways));
+    mine.push(Event::Std { ra: 5, index });
+    let others = (0..count).filter(|&thread| thread != stage.me);
+    let others = others.flat_map(|thread| {
+        enter
+            .map(|e| (thread, e))
+            .into_iter()
+            .chain([(thread, load)])
+    });
+    others
+        .chain(mine.into_iter().map(|e| (stage.me, e)))
+        .collect()
 }
 
 /// A doubleword stored twice, loaded, committed, and loaded by another.

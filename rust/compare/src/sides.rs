@@ -1,7 +1,7 @@
 //! The two sides of the comparison.
 
 use model::tape::{encode, MARK};
-use model::{valid, Machine};
+use model::{valid, Done, Machine};
 use naszeptan::raw;
 
 /// The side under test: the calls of the header. The archive is one; the
@@ -12,11 +12,14 @@ pub trait Side: Sync {
         raw::valid(*m, len)
     }
 
-    /// One event.
-    fn step(&self, m: &mut raw::Machine, memory: &mut [u64], e: raw::Event) -> u8 {
+    /// One event: its answer, and who failed in it.
+    fn step(&self, m: &mut raw::Machine, memory: &mut [u64], e: raw::Event) -> Done {
         let done = raw::step(*m, memory, e);
         *m = done.machine;
-        done.answer
+        Done {
+            answer: done.answer,
+            failed: done.failed,
+        }
     }
 
     /// A tape: the answer that ended it, and how many records were done.
@@ -84,13 +87,13 @@ pub fn model_valid(m: &Machine, len: usize) -> u8 {
 
 /// The model's step. The header puts 8 and 9 after 1 and 2 and before the
 /// rest; the model's reader tells them from the fields as a record.
-pub fn model_step(m: &mut Machine, memory: &mut [u64], e: raw::Event) -> u8 {
+pub fn model_step(m: &mut Machine, memory: &mut [u64], e: raw::Event) -> Done {
     match model::read(&record(e)) {
-        Ok((thread, e)) => model::step(m, memory, thread, e),
-        Err(number) => match model_valid(m, memory.len()) {
+        Ok((thread, e)) => model::step_with_failed(m, memory, thread, e),
+        Err(number) => Done::refused(match model_valid(m, memory.len()) {
             0 => number,
             refused => refused,
-        },
+        }),
     }
 }
 

@@ -7,10 +7,12 @@ use compare::counts::{Counts, ALL_MET_FROM};
 use compare::shrink::Case;
 use compare::sides::{Archive, Side};
 use compare::start::{Kind, Start};
+use model::Done;
 use naszeptan::raw;
 
 const SEED: u64 = 7;
-const EVENTS: u64 = 10_000;
+/// Enough for the rarest to be met; a test ends where it finds the first.
+const EVENTS: u64 = 40_000;
 
 /// The failure that the comparison finds.
 fn found<S: Side>(side: &S) -> Failure {
@@ -37,15 +39,17 @@ fn kinds(case: &Case) -> Vec<u8> {
 struct Misanswers;
 
 impl Side for Misanswers {
-    fn step(&self, m: &mut raw::Machine, memory: &mut [u64], e: raw::Event) -> u8 {
+    fn step(&self, m: &mut raw::Machine, memory: &mut [u64], e: raw::Event) -> Done {
         let suspended = m
             .threads
             .get(usize::from(e.thread))
             .is_some_and(|t| t.control.state == 2);
-        match Archive.step(m, memory, e) {
+        let done = Archive.step(m, memory, e);
+        let answer = match done.answer {
             0 if e.kind == 7 && e.x == 3 && suspended => 21,
             answer => answer,
-        }
+        };
+        Done { answer, ..done }
     }
 }
 
@@ -62,22 +66,29 @@ fn a_wrong_answer_is_shrunk_to_its_event() {
     assert!(text.contains("E3 07 0"), "{text}");
 }
 
+/// A thread's state as the header has it.
+fn state(m: &raw::Machine, thread: u8) -> Option<u8> {
+    let thread = m.threads.get(usize::from(thread));
+    thread.map(|t| t.control.state)
+}
+
+/// Whether this was a commit, by the state before it and the machine after.
+fn commits(e: raw::Event, before: Option<u8>, done: &Done, m: &raw::Machine) -> bool {
+    let ended = before == Some(1) && state(m, e.thread) == Some(0);
+    e.kind == 2 && done.answer == 0 && ended
+}
+
 /// Leaves a bit in a register of another thread at a commit.
 struct Meddles;
 
 impl Side for Meddles {
-    fn step(&self, m: &mut raw::Machine, memory: &mut [u64], e: raw::Event) -> u8 {
-        let state = |m: &raw::Machine| {
-            m.threads
-                .get(usize::from(e.thread))
-                .map(|t| t.control.state)
-        };
-        let before = state(m);
-        let answer = Archive.step(m, memory, e);
-        if e.kind == 2 && answer == 0 && before == Some(1) && state(m) == Some(0) {
+    fn step(&self, m: &mut raw::Machine, memory: &mut [u64], e: raw::Event) -> Done {
+        let before = state(m, e.thread);
+        let done = Archive.step(m, memory, e);
+        if commits(e, before, &done, m) {
             m.threads[usize::from(e.thread) ^ 1].checkpoint.gpr[31] ^= 1 << 63;
         }
-        answer
+        done
     }
 }
 
@@ -91,18 +102,74 @@ fn a_wrong_field_is_shrunk_to_begin_and_end() {
     assert!(text.contains("checkpoint"), "{text}");
 }
 
+/// Tells a commit as a failure of its thread.
+struct TellsCommits;
+
+impl Side for TellsCommits {
+    fn step(&self, m: &mut raw::Machine, memory: &mut [u64], e: raw::Event) -> Done {
+        let before = state(m, e.thread);
+        let mut done = Archive.step(m, memory, e);
+        if commits(e, before, &done, m) {
+            done.failed |= 1 << e.thread;
+        }
+        done
+    }
+}
+
+#[test]
+fn a_commit_told_as_a_failure_is_shrunk_to_begin_and_end() {
+    let (case, text) = shrunk(&TellsCommits);
+    assert!(matches!(kinds(&case)[..], [2] | [1, 2]), "{case}");
+    assert!(text.contains("failed: model 0000, proved 0"), "{text}");
+}
+
+/// Tells a failure of its own thread alone.
+struct TellsItself;
+
+impl Side for TellsItself {
+    fn step(&self, m: &mut raw::Machine, memory: &mut [u64], e: raw::Event) -> Done {
+        let mut done = Archive.step(m, memory, e);
+        done.failed &= 1u8.checked_shl(e.thread.into()).unwrap_or(0);
+        done
+    }
+}
+
+#[test]
+fn another_thread_s_failure_not_told_is_found() {
+    let (case, text) = shrunk(&TellsItself);
+    let last = case.records.last().expect("a record");
+    assert!(
+        matches!(last[1], 12 | 13),
+        "only an access fails others\n{case}"
+    );
+    assert!(text.contains("failed: model "), "{text}");
+}
+
+/// Tells thread 0 where bits that are no machine are refused.
+struct TellsOfNoMachine;
+
+impl Side for TellsOfNoMachine {
+    fn step(&self, m: &mut raw::Machine, memory: &mut [u64], e: raw::Event) -> Done {
+        let mut done = Archive.step(m, memory, e);
+        if m.threads.iter().any(|t| t.control.state > 2) {
+            done.failed = 1;
+        }
+        done
+    }
+}
+
 /// Writes one doubleword too many: the one after a plain store's.
 struct Spills;
 
 impl Side for Spills {
-    fn step(&self, m: &mut raw::Machine, memory: &mut [u64], e: raw::Event) -> u8 {
-        let answer = Archive.step(m, memory, e);
-        if e.kind == 13 && answer == 0 {
+    fn step(&self, m: &mut raw::Machine, memory: &mut [u64], e: raw::Event) -> Done {
+        let done = Archive.step(m, memory, e);
+        if e.kind == 13 && done.answer == 0 {
             if let Some(next) = memory.get_mut(e.index as usize + 1) {
                 *next ^= 1;
             }
         }
-        answer
+        done
     }
 }
 
@@ -138,11 +205,13 @@ fn a_wrong_run_is_shrunk_to_two_records() {
 struct Trusts;
 
 impl Side for Trusts {
-    fn step(&self, m: &mut raw::Machine, memory: &mut [u64], e: raw::Event) -> u8 {
-        match Archive.step(m, memory, e) {
+    fn step(&self, m: &mut raw::Machine, memory: &mut [u64], e: raw::Event) -> Done {
+        let done = Archive.step(m, memory, e);
+        let answer = match done.answer {
             2 => 0,
             answer => answer,
-        }
+        };
+        Done { answer, ..done }
     }
 }
 
@@ -195,6 +264,7 @@ impl Side for WritesMore {
 #[test]
 fn wrong_calls_are_found() {
     assert!(found(&Lax).what.starts_with("valid of"));
+    assert!(found(&TellsOfNoMachine).what.starts_with("step of"));
     assert!(found(&ReadsLess).what.starts_with("read of"));
     assert!(found(&WritesMore).what.starts_with("write of"));
 }
@@ -221,6 +291,8 @@ fn what_was_not_met_is_told() {
     for cell in [
         "tbegin., T, 20",
         "std, S, 21",
+        "std, S, failed: and 3",
+        "tsr., S, doomed, failed: itself",
         "run, none done, 6",
         "write, 10",
     ] {
@@ -233,11 +305,23 @@ fn what_was_not_met_is_told() {
 fn what_cannot_be_met_is_told() {
     let mut counts = Counts::default();
     counts.event(2, Before::T, 21, 0);
+    let tend = raw::Event {
+        kind: 2,
+        thread: 1,
+        ..raw::Event::default()
+    };
+    let (answer, failed) = (0, 0b0010);
+    counts.failed(tend, Before::T, Done { answer, failed });
+    let (answer, failed) = (4, 0b0001);
+    counts.failed(tend, Before::T, Done { answer, failed });
     counts.call(Call::Write, 6);
     assert_eq!(
         counts.wrong(1),
         [
             "met 1 times: tend., T, 21, though a commit cannot fail",
+            "met 1 times: tend., -, failed: 1 other, though a refused event fails no one",
+            "met 1 times: tend., T, failed: itself, though 20, 21 and treclaim. of a live \
+             transaction tell its own thread, nothing else",
             "met 1 times: write, 6, though it never gives that"
         ]
     );

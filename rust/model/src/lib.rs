@@ -23,7 +23,7 @@ pub mod tape;
 pub use event::Event;
 pub use machine::{valid, Entry, LineSet, Machine, Registers, State, Thread};
 pub use run::{program, run};
-pub use step::{step, step_trusted};
+pub use step::{step, step_trusted, step_with_failed, Done};
 pub use tape::{read, write};
 
 #[cfg(test)]

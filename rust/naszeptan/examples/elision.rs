@@ -3,7 +3,7 @@
 //! failure left behind. The last record is the failure handler's first
 //! instruction, which reads TEXASR.
 
-use naszeptan::{Event, Machine, Tape, MEMORY, SPR_TEXASR};
+use naszeptan::{Done, Event, Machine, Tape, MEMORY, SPR_TEXASR};
 
 /// The doubleword that is the lock: line 0.
 const LOCK: u32 = 0;
@@ -39,12 +39,15 @@ fn main() {
 
     let mut machine = Machine::fresh();
     let mut memory = vec![0; MEMORY];
-    println!("Record, its answer, and the state of thread 0 after it:");
+    println!("Record, its answer, who failed in it, and the state of thread 0 after it:");
     for (number, record) in tape.records().enumerate() {
         let (thread, event) = record.expect("the tape was made of events");
-        let answer = machine.step(&mut memory, thread, event);
+        let Done { answer, failed } = machine.step_with_failed(&mut memory, thread, event);
         let state = machine.threads[0].control.state;
-        println!("{number:>5}  {} {answer}, {state}", answer.number());
+        println!(
+            "{number:>5}  {} {answer}; failed: {failed}; {state}",
+            answer.number()
+        );
     }
 
     let thread = &machine.threads[0];

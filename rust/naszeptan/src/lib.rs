@@ -64,6 +64,8 @@
 //!   [`LineSet`], [`Entry`]: the state. Every field may be read and set.
 //! - [`Machine::step`] and [`Machine::run`], also as the functions [`step`]
 //!   and [`run`].
+//! - [`Machine::step_with_failed`], [`Done`], [`ThreadSet`]: which threads failed
+//!   in an event, others than its own too.
 //! - [`KINDS`], [`Kind`], [`Operand`]: what all events of one kind have in
 //!   common, one row for each kind.
 //! - [`Texasr`], [`Failure`], [`Cause`]: what a failure left behind.
@@ -84,18 +86,20 @@ mod show;
 mod sys;
 mod tape;
 mod texasr;
+mod threads;
 mod transaction;
 
 pub use answer::{Answer, NoAnswer};
 pub use event::Event;
 pub use kind::{Kind, Operand, KINDS};
-pub use machine::{Control, Ended, Machine, State, Thread};
+pub use machine::{Control, Done, Ended, Machine, State, Thread};
 #[doc(inline)]
 pub use raw::{version, Entry, Lines as LineSet, Registers, Transaction};
 pub use raw::{FIRST_BYTE, GPRS, LINE, MEMORY, PLACES, RECORD_SIZE, THREADS, VERSION};
 pub use raw::{SPR_TEXASR, SPR_TEXASRU, SPR_TFHAR, SPR_TFIAR};
 pub use tape::{Records, Tape};
 pub use texasr::{Cause, Failure, Texasr};
+pub use threads::ThreadSet;
 
 /// Does one event by a thread: [`Machine::step`].
 #[must_use = "the event may have been refused"]

@@ -3,7 +3,7 @@
 use std::fmt;
 
 use crate::raw::{self, Registers, Transaction, THREADS};
-use crate::{Answer, Event, Texasr};
+use crate::{Answer, Event, Texasr, ThreadSet};
 
 /// A thread's state.
 #[derive(Clone, Copy, Debug, Default, PartialEq, Eq, Hash)]
@@ -90,6 +90,16 @@ pub struct Machine {
     pub threads: [Thread; THREADS],
 }
 
+/// What a step gave.
+#[derive(Clone, Copy, Debug, PartialEq, Eq, Hash)]
+pub struct Done {
+    /// The event's answer, which tells of its own thread alone.
+    pub answer: Answer,
+    /// The threads that failed in the event, its own and others
+    /// (docs/RULES.md, H8). Empty where the event was refused.
+    pub failed: ThreadSet,
+}
+
 /// How a run ended.
 #[derive(Clone, Copy, Debug, PartialEq, Eq, Hash)]
 pub struct Ended {
@@ -116,7 +126,8 @@ impl Machine {
     }
 
     /// Does one event by a thread. A refused one leaves machine and memory
-    /// untouched.
+    /// untouched. [`Machine::step_with_failed`] also tells which threads
+    /// failed.
     ///
     /// ```
     /// use naszeptan::{Answer, Event, Machine};
@@ -131,12 +142,48 @@ impl Machine {
     /// ```
     #[must_use = "the event may have been refused"]
     pub fn step(&mut self, memory: &mut [u64], thread: u8, event: Event) -> Answer {
+        self.step_with_failed(memory, thread, event).answer
+    }
+
+    /// Does one event by a thread, as [`Machine::step`] does, and also tells
+    /// which threads failed in it: its own where the answer is
+    /// [`Answer::Handled`], and each whose transaction was live before the
+    /// event and is not after it, unless it is the thread's own commit.
+    ///
+    /// A failure recorded in Suspended state is so told twice, when it is
+    /// recorded and when tresume handles it. treclaim. of a live transaction is
+    /// told, and of a doomed one not.
+    ///
+    /// ```
+    /// use naszeptan::{Answer, Event, Machine};
+    ///
+    /// let (mut machine, mut memory) = (Machine::fresh(), [0; 16]);
+    /// let mut step = |thread, event| {
+    ///     let done = machine.step_with_failed(&mut memory, thread, event);
+    ///     (done.answer, done.failed.to_string())
+    /// };
+    /// step(0, Event::Tbegin { r: false });
+    /// step(0, Event::Ld { rt: 4, index: 0 });
+    /// step(0, Event::Tsr { l: false }); // tsuspend
+    /// // The answer is that of thread 1, and says nothing of thread 0.
+    /// let (answer, failed) = step(1, Event::Std { ra: 5, index: 0 });
+    /// assert_eq!((answer, failed.as_str()), (Answer::Done, "thread 0"));
+    /// let (answer, failed) = step(0, Event::Tsr { l: true }); // tresume
+    /// assert_eq!((answer, failed.as_str()), (Answer::Handled, "thread 0"));
+    /// let (answer, failed) = step(0, Event::Trechkpt);
+    /// assert_eq!((answer, failed.as_str()), (Answer::Privileged, "none"));
+    /// ```
+    #[must_use = "the event may have been refused"]
+    pub fn step_with_failed(&mut self, memory: &mut [u64], thread: u8, event: Event) -> Done {
         let done = raw::step((&*self).into(), memory, event.to_raw(thread));
         let answer = Answer::promised(done.answer);
         if answer.is_done() {
             *self = Machine::promised(&done.machine);
         }
-        answer
+        Done {
+            answer,
+            failed: ThreadSet::of(done.failed),
+        }
     }
 
     /// Runs a tape until a record is refused or the tape ends. The machine is

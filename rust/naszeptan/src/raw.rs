@@ -198,12 +198,19 @@ pub struct Event {
     pub si: u16,
 }
 
-/// A step's answer, and the machine after it.
+/// A step's answer, which threads failed in its event, and the machine after
+/// it.
 #[repr(C)]
 #[derive(Clone, Copy, Debug, PartialEq, Eq)]
 pub struct Done {
     /// The number given back.
     pub answer: u8,
+    /// Bit v, counted from the lowest, stands for thread v (docs/RULES.md,
+    /// H8). It is 1 for the event's own thread where the answer is 20, and for
+    /// each thread that had a live transaction before the event and has none
+    /// after it, unless the event is that thread's own tend., which commits.
+    /// All other bits are 0, and so is the byte of a refused event.
+    pub failed: u8,
     /// The machine handed in, if the event was refused.
     pub machine: Machine,
 }
@@ -249,7 +256,7 @@ pub fn valid(machine: Machine, len: usize) -> u8 {
 }
 
 /// One event. Refused by 1, 2, 8, 9, 3, 4, 5, 11, 12, 13: the first that
-/// applies in this order.
+/// applies in this order. What is given back also tells which threads failed.
 pub fn step(machine: Machine, memory: &mut [u64], event: Event) -> Done {
     sys::step(machine, memory, event)
 }

@@ -68,7 +68,10 @@ fn event() {
 
 #[test]
 fn answers() {
-    assert_eq!(layout!(Done, answer, machine), (6704, 8, vec![0, 8]));
+    assert_eq!(
+        layout!(Done, answer, failed, machine),
+        (6704, 8, vec![0, 1, 8])
+    );
     assert_eq!(
         layout!(Ended, answer, count, machine),
         (6712, 8, vec![0, 8, 16])

@@ -1,7 +1,7 @@
 //! Events 3 to 5: tabort. and its conditional forms.
 
 use super::failures::cause;
-use crate::answer;
+use super::Went;
 use crate::machine::{State, Thread};
 
 /// Whether a comparison chosen by TO holds between doublewords.
@@ -36,23 +36,23 @@ impl Thread {
 
     /// Event 3.
     #[inline]
-    pub(super) fn tabort(&mut self, ra: u8) -> u8 {
+    pub(super) fn tabort(&mut self, ra: u8) -> Went {
         self.abort(self.abort_cause(ra))
     }
 
     /// Event 4.
     #[inline]
-    pub(super) fn tabortwc(&mut self, to: u8, ra: u8, rb: u8) -> u8 {
+    pub(super) fn tabortwc(&mut self, to: u8, ra: u8, rb: u8) -> Went {
         self.abort_if(holds_word(to, self.gpr(ra), self.gpr(rb)))
     }
 
     /// Event 5.
     #[inline]
-    pub(super) fn tabortdc(&mut self, to: u8, ra: u8, rb: u8) -> u8 {
+    pub(super) fn tabortdc(&mut self, to: u8, ra: u8, rb: u8) -> Went {
         self.abort_if(holds(to, self.gpr(ra), self.gpr(rb)))
     }
 
-    fn abort(&mut self, cause: u32) -> u8 {
+    fn abort(&mut self, cause: u32) -> Went {
         self.cr0_from_state();
         match self.state {
             State::N => self.next(),
@@ -60,17 +60,13 @@ impl Thread {
             State::S => {
                 let recorded = self.record(cause, true);
                 self.next();
-                if recorded {
-                    answer::RECORDED
-                } else {
-                    answer::DONE
-                }
+                Went::in_s(recorded)
             }
         }
     }
 
     #[inline]
-    fn abort_if(&mut self, holds: bool) -> u8 {
+    fn abort_if(&mut self, holds: bool) -> Went {
         if holds {
             self.abort(cause::ABORT)
         } else {

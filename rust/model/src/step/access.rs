@@ -1,7 +1,7 @@
 //! Rules A0 to A5: events 12 and 13.
 
 use super::failures::cause;
-use crate::answer;
+use super::Went;
 use crate::machine::{Entry, Machine, State, Thread, LINE, LOG, MAX_FOOTPRINT, THREADS};
 
 impl Thread {
@@ -47,31 +47,34 @@ impl Thread {
     }
 }
 
-/// A3: the accessor wins.
+/// A3: the accessor wins. Gives who failed, a bit for each thread.
 #[inline(always)]
-fn fail_others(threads: &mut [Thread; THREADS], me: usize, line: usize, store: bool) {
+fn fail_others(threads: &mut [Thread; THREADS], me: usize, line: usize, store: bool) -> u8 {
     let cause = match threads[me].state {
         State::T => cause::TRANSACTION,
         _ => cause::NON_TRANSACTIONAL,
     };
+    let mut failed = 0;
     for (i, t) in threads.iter_mut().enumerate() {
         let hit = t.writes.contains(line) || store && t.reads.contains(line);
         if hit && i != me && t.is_live() {
             t.fail_by_other(cause);
+            failed |= 1 << i;
         }
     }
+    failed
 }
 
 /// Event 12, by A1, A3, A4.
 #[inline]
-pub(super) fn load(m: &mut Machine, mem: &[u64], me: usize, rt: u8, index: u32) -> u8 {
+pub(super) fn load(m: &mut Machine, mem: &[u64], me: usize, rt: u8, index: u32) -> Went {
     let line = index as usize / LINE;
     let t = &mut m.threads[me];
     let joins = t.state == State::T && !t.rot();
     if joins && t.line_overflows(line) {
         return t.fail_in_t(cause::FOOTPRINT);
     }
-    fail_others(&mut m.threads, me, line, false);
+    let others = fail_others(&mut m.threads, me, line, false);
     let t = &mut m.threads[me];
     let value = match t.place(line, index) {
         Some(i) => t.log[i].value,
@@ -81,12 +84,13 @@ pub(super) fn load(m: &mut Machine, mem: &[u64], me: usize, rt: u8, index: u32) 
         t.reads.insert(line);
     }
     t.set_gpr(rt, value);
-    t.next()
+    let went = t.next();
+    Went { others, ..went }
 }
 
 /// Event 13, by A1 to A4.
 #[inline]
-pub(super) fn store(m: &mut Machine, mem: &mut [u64], me: usize, ra: u8, index: u32) -> u8 {
+pub(super) fn store(m: &mut Machine, mem: &mut [u64], me: usize, ra: u8, index: u32) -> Went {
     let line = index as usize / LINE;
     let t = &mut m.threads[me];
     let value = t.gpr(ra);
@@ -95,20 +99,18 @@ pub(super) fn store(m: &mut Machine, mem: &mut [u64], me: usize, ra: u8, index: 
         if t.line_overflows(line) || place.is_none() && t.count >= LOG {
             return t.fail_in_t(cause::FOOTPRINT);
         }
-        fail_others(&mut m.threads, me, line, true);
+        let others = fail_others(&mut m.threads, me, line, true);
         let t = &mut m.threads[me];
         t.log_store(place, line, index, value);
-        return t.next();
+        let went = t.next();
+        return Went { others, ..went };
     }
     let recorded = t.state == State::S && t.has_line(line) && t.record(cause::SELF_INDUCED, true);
-    fail_others(&mut m.threads, me, line, true);
+    let others = fail_others(&mut m.threads, me, line, true);
     if let Some(doubleword) = mem.get_mut(index as usize) {
         *doubleword = value;
     }
     m.threads[me].next();
-    if recorded {
-        answer::RECORDED
-    } else {
-        answer::DONE
-    }
+    let went = Went::in_s(recorded);
+    Went { others, ..went }
 }

@@ -1,6 +1,6 @@
 //! Failure: its causes, recording and handling.
 
-use crate::answer;
+use super::Went;
 use crate::machine::{texasr, Entry, LineSet, State, Thread};
 
 /// Causes of failure: the upper half of TEXASR.
@@ -28,6 +28,8 @@ impl Thread {
 
     /// Recording. NIA has not moved yet, so it is the address in both cases:
     /// the thread's own instruction, or where another thread's event met it.
+    /// Gives whether it was recorded, which rule H8 tells: with FS = 0 the
+    /// transaction was live, and now it is not.
     pub(super) fn record(&mut self, cause: u32, own: bool) -> bool {
         if self.failed() {
             return false;
@@ -46,17 +48,17 @@ impl Thread {
     }
 
     /// Handling.
-    pub(super) fn handle(&mut self) -> u8 {
+    pub(super) fn handle(&mut self) -> Went {
         self.live = self.checkpoint;
         self.cr0 = 0b1010;
         self.nia = self.tfhar;
         self.state = State::N;
         self.doomed = false;
-        answer::HANDLED
+        Went::HANDLED
     }
 
     /// A failure of its own in T: recorded and handled in the same event.
-    pub(super) fn fail_in_t(&mut self, cause: u32) -> u8 {
+    pub(super) fn fail_in_t(&mut self, cause: u32) -> Went {
         self.record(cause, true);
         self.handle()
     }
@@ -71,7 +73,7 @@ impl Thread {
 
     /// Event 15.
     #[inline]
-    pub(super) fn disallowed(&mut self) -> u8 {
+    pub(super) fn disallowed(&mut self) -> Went {
         if self.state == State::T {
             self.fail_in_t(cause::DISALLOWED)
         } else {

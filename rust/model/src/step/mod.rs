@@ -1,5 +1,6 @@
 //! Doing one event: rules E1 to E17 and A0 to A5, and the tests of an event,
-//! rule N2.
+//! rule N2. Who failed in it, rule H8, is noted where the failure is recorded
+//! or handled.
 //!
 //! The tests of an event stand in `attempt`; the function that does it is in
 //! the file of its group.
@@ -18,16 +19,82 @@ use crate::Event;
 use access::{load, store};
 use refusals::{access, test};
 
+/// What an event gives: its answer, and by rule H8 who failed in it, thread v
+/// by bit v from the lowest on.
+#[derive(Clone, Copy, PartialEq, Eq, Debug)]
+pub struct Done {
+    pub answer: u8,
+    pub failed: u8,
+}
+
+impl Done {
+    /// A refused event fails no one.
+    pub const fn refused(answer: u8) -> Done {
+        Done { answer, failed: 0 }
+    }
+}
+
+/// What an event did that was not refused: its answer, whether its own thread
+/// failed (1, else 0) and which others did. As a bool `own` would make a run of
+/// mixed events one hundredth slower.
+#[derive(Clone, Copy)]
+struct Went {
+    answer: u8,
+    own: u8,
+    others: u8,
+}
+
+impl Went {
+    const DONE: Went = Went {
+        answer: answer::DONE,
+        own: 0,
+        others: 0,
+    };
+    const HANDLED: Went = Went {
+        answer: answer::HANDLED,
+        own: 1,
+        others: 0,
+    };
+    const RECORDED: Went = Went {
+        answer: answer::RECORDED,
+        own: 1,
+        others: 0,
+    };
+
+    /// A failure of its own in S, where FS may have kept it from being
+    /// recorded.
+    #[inline(always)]
+    fn in_s(recorded: bool) -> Went {
+        if recorded {
+            Went::RECORDED
+        } else {
+            Went::DONE
+        }
+    }
+}
+
 /// Does one event of one thread and gives its answer. A refused event leaves
 /// the machine and the memory as they were.
 pub fn step(m: &mut Machine, mem: &mut [u64], thread: u8, e: Event) -> u8 {
+    step_with_failed(m, mem, thread, e).answer
+}
+
+/// As [`step`], and also gives who failed (rule H8).
+pub fn step_with_failed(m: &mut Machine, mem: &mut [u64], thread: u8, e: Event) -> Done {
     if !m.shape_fits(mem.len()) {
-        return answer::SHAPE;
+        return Done::refused(answer::SHAPE);
     }
     if !valid(m, mem.len()) {
-        return answer::INVALID;
+        return Done::refused(answer::INVALID);
     }
-    step_trusted(m, mem, thread, e)
+    match attempt(m, mem, thread, e) {
+        // No bit is lost: the thread is below the count, at most 4.
+        Ok(went) => Done {
+            answer: went.answer,
+            failed: went.others | went.own << (thread & 7),
+        },
+        Err(refusal) => Done::refused(refusal),
+    }
 }
 
 /// As [`step`], for a machine known to be valid with this memory: the numbers
@@ -35,14 +102,17 @@ pub fn step(m: &mut Machine, mem: &mut [u64], thread: u8, e: Event) -> u8 {
 /// but there is no panic.
 #[inline(always)]
 pub fn step_trusted(m: &mut Machine, mem: &mut [u64], thread: u8, e: Event) -> u8 {
-    attempt(m, mem, thread, e).unwrap_or_else(|refusal| refusal)
+    match attempt(m, mem, thread, e) {
+        Ok(went) => went.answer,
+        Err(refusal) => refusal,
+    }
 }
 
 /// Tests 3, 4, 5, 11, 12 and 13, each kind those that it can fail, in that
-/// order and before anything is changed; then does the event. Gives the
-/// answer of an event done, or the number that refuses it.
+/// order and before anything is changed; then does the event. Gives what the
+/// event did, or the number that refuses it.
 #[inline(always)]
-fn attempt(m: &mut Machine, mem: &mut [u64], thread: u8, e: Event) -> Result<u8, u8> {
+fn attempt(m: &mut Machine, mem: &mut [u64], thread: u8, e: Event) -> Result<Went, u8> {
     let me = usize::from(thread);
     test(me < m.count.min(THREADS), answer::NO_THREAD)?;
     let t = &mut m.threads[me];

@@ -1,6 +1,6 @@
 //! Registers: what the other events use of them, and events 10, 11 and 14.
 
-use crate::answer;
+use super::Went;
 use crate::machine::Thread;
 
 impl Thread {
@@ -17,13 +17,13 @@ impl Thread {
 
     /// Goes on to the next instruction.
     #[inline]
-    pub(super) fn next(&mut self) -> u8 {
+    pub(super) fn next(&mut self) -> Went {
         self.nia = self.nia.wrapping_add(4);
-        answer::DONE
+        Went::DONE
     }
 
     /// Event 10.
-    pub(super) fn mtspr(&mut self, spr: u8, ra: u8) -> u8 {
+    pub(super) fn mtspr(&mut self, spr: u8, ra: u8) -> Went {
         let value = self.gpr(ra);
         match spr {
             128 => self.tfhar = value & !3,
@@ -35,7 +35,7 @@ impl Thread {
     }
 
     /// Event 11.
-    pub(super) fn mfspr(&mut self, rt: u8, spr: u8) -> u8 {
+    pub(super) fn mfspr(&mut self, rt: u8, spr: u8) -> Went {
         let value = match spr {
             128 => self.tfhar,
             129 if self.pr && self.tfiar & 1 == 0 => 0,
@@ -49,7 +49,7 @@ impl Thread {
 
     /// Event 14.
     #[inline]
-    pub(super) fn addi(&mut self, rt: u8, ra: u8, si: u16) -> u8 {
+    pub(super) fn addi(&mut self, rt: u8, ra: u8, si: u16) -> Went {
         let base = if ra == 0 { 0 } else { self.gpr(ra) };
         self.set_gpr(rt, base.wrapping_add(si as i16 as u64));
         self.next()

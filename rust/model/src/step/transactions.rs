@@ -2,7 +2,7 @@
 //! 17; and event 7, which tells where it is.
 
 use super::failures::cause;
-use crate::answer;
+use super::Went;
 use crate::machine::{texasr, State, Thread, MAX_LEVEL};
 
 impl Thread {
@@ -22,7 +22,7 @@ impl Thread {
     }
 
     /// Event 1.
-    pub(super) fn tbegin(&mut self, r: bool) -> u8 {
+    pub(super) fn tbegin(&mut self, r: bool) -> Went {
         self.cr0_from_state();
         match self.state {
             State::N => {
@@ -39,7 +39,7 @@ impl Thread {
     }
 
     /// Event 2.
-    pub(super) fn tend(&mut self, a: bool, mem: &mut [u64]) -> u8 {
+    pub(super) fn tend(&mut self, a: bool, mem: &mut [u64]) -> Went {
         self.cr0_from_state();
         if self.state == State::T {
             if a || self.level() == 1 {
@@ -64,7 +64,7 @@ impl Thread {
     }
 
     /// Event 6.
-    pub(super) fn tsr(&mut self, l: bool) -> u8 {
+    pub(super) fn tsr(&mut self, l: bool) -> Went {
         self.cr0_from_state();
         match (l, self.state) {
             (false, State::T) => self.state = State::S,
@@ -76,7 +76,7 @@ impl Thread {
     }
 
     /// Event 7.
-    pub(super) fn tcheck(&mut self, bf: u8) -> u8 {
+    pub(super) fn tcheck(&mut self, bf: u8) -> Went {
         let field = u8::from(self.doomed) << 3 | self.ts() << 1;
         match bf.checked_sub(1) {
             None => self.cr0 = field,
@@ -89,20 +89,24 @@ impl Thread {
         self.next()
     }
 
-    /// Event 8. The code is read before the registers come back, and the
-    /// answer is 0 also where a failure is recorded.
-    pub(super) fn treclaim(&mut self, ra: u8) -> u8 {
+    /// Event 8. The code is read before the registers come back. The answer is
+    /// 0 also where a failure is recorded; rule H8 tells it all the same.
+    pub(super) fn treclaim(&mut self, ra: u8) -> Went {
         self.cr0_from_state();
-        self.record(self.abort_cause(ra), true);
+        let own = self.record(self.abort_cause(ra), true);
         self.live = self.checkpoint;
         self.state = State::N;
         self.doomed = false;
         self.empty();
-        self.next()
+        let went = self.next();
+        Went {
+            own: u8::from(own),
+            ..went
+        }
     }
 
     /// Event 9.
-    pub(super) fn trechkpt(&mut self) -> u8 {
+    pub(super) fn trechkpt(&mut self) -> Went {
         self.checkpoint = self.live;
         self.cr0 = 0;
         self.state = State::S;
@@ -112,20 +116,20 @@ impl Thread {
 
     /// Event 16.
     #[inline]
-    pub(super) fn interrupt(&mut self) -> u8 {
+    pub(super) fn interrupt(&mut self) -> Went {
         if self.state == State::T {
             self.state = State::S;
         }
         self.pr = false;
         self.tm = false;
-        answer::DONE
+        Went::DONE
     }
 
     /// Event 17.
     #[inline]
-    pub(super) fn host(&mut self, pr: bool, tm: bool) -> u8 {
+    pub(super) fn host(&mut self, pr: bool, tm: bool) -> Went {
         self.pr = pr;
         self.tm = tm;
-        answer::DONE
+        Went::DONE
     }
 }

@@ -1,6 +1,7 @@
 //! Tests. What they share is here.
 
 mod events;
+mod failed;
 mod literal;
 mod machines;
 mod properties;
