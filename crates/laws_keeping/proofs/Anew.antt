@@ -1,8 +1,8 @@
 -- A valid thread with one part anew.
 use mathlib.Core.Path.{_≡_, _∙_}
-use mathlib.Core.Bool.{true}
+use mathlib.Core.Bool.{Bool, true}
 use mathlib.Core.List.{List, [], _∷_}
-use Prim.Native.Nat.{ℕ, zero, suc, _+_, _-_, _%_, _≤_, _<_}
+use Prim.Native.Nat.{ℕ, zero, suc, _-_, _%_, _≤_, _<_}
 use native.Mathlib.Omega.{arith}
 use lib.Dec.{eqb, ltb}
 use lib.ListN.{length, getD, set, length-set}
@@ -14,13 +14,14 @@ use Rattle.transaction.specs.declared.Transaction.{Transaction}
 use Rattle.power_common.specs.Common.{next, advance, ts-field, cr0-from-state, put-gpr}
 use Rattle.power_reclaims.specs.Reclaims.{put-cr}
 use Rattle.power_effect.proofs.Cases.{with-gprs}
-use Rattle.thread.specs.Texasr.{tl}
+use Rattle.thread.specs.Texasr.{tl, nested}
 use Rattle.thread.specs.Thread.{with-live, with-cr0, with-control, with-transaction, take-checkpoint}
 use Rattle.thread.specs.declared.Registers.{Registers}
 use Rattle.thread.specs.declared.State.{State}
 use Rattle.thread.specs.declared.State.the-variants.{N, T, S}
 use Rattle.thread.specs.declared.Control.{Control}
 use Rattle.thread.specs.declared.Thread.{Thread}
+use Rattle.thread.proofs.Laws.{nested-fs, nested-tl}
 use Rattle.machine.specs.Valid.{cr-small}
 use Rattle.laws_keeping.proofs.Fails.{Good, Addressed, Holds, Live, Rules, Right}
 
@@ -41,9 +42,11 @@ ts-small S = omega arith
 pub next-aligned : (a : ℕ) → a % 4 ≡ 0 → next a % 4 ≡ 0
 next-aligned a h = omega arith
 
--- one level more, one level less
-pub up : {x : ℕ} {y : Transaction} → Live x y → tl x < most-levels → Live (x + 1) y
-up l h = record { unfailed = omega arith; low = omega arith; high = omega arith; small = l .small }
+-- one level more, with ROT off or as it was; one level less
+pub up : {x : ℕ} {y : Transaction} (r : Bool) → Live x y → tl x < most-levels → Live (nested x r) y
+up {x} r l h =
+    let n = nested-tl x (omega arith) r in
+    record { unfailed = nested-fs x (omega arith) r ∙ l .unfailed; low = omega arith; high = omega arith; small = l .small }
 
 pub down : {x : ℕ} {y : Transaction} → Live x y → 1 < tl x → Live (x - 1) y
 down l h = record { unfailed = omega arith; low = omega arith; high = omega arith; small = l .small }

@@ -100,7 +100,7 @@ module _ (t : Thread) (len : ℕ) where
       (r .rules .0, begun-live b (r .rules .1))))
   tbegin-fine T b r =
       fork (Fine len) (leb most-levels (tl (t .control .failure .texasr))) (λ p. fails-fine t len _ r)
-      (λ p. leveled-fine _ r (up (r .rules .1) (leb-false _ _ p)))
+      (λ p. leveled-fine _ r (up b (r .rules .1) (leb-false _ _ p)))
   tbegin-fine S b r = cr0-only-fine r
 
   tend-fine : (s : State) (a : Bool) → Right s t len → Does len (tend s t a)

@@ -1,5 +1,5 @@
 -- tbegin., tend. and tsr. (rules E1, E2 and E6). Clauses by state first. tend. in S is a Bad Thing and refused: that clause is never reached.
-use Prim.Native.Nat.{ℕ, _+_, _-_}
+use Prim.Native.Nat.{ℕ, _-_}
 use mathlib.Core.Bool.{Bool, cond, _||_}
 use lib.Dec.{leb}
 use Rattle.base.specs.Answers as answer
@@ -9,7 +9,7 @@ use Rattle.transaction.specs.Transaction as transaction
 use Rattle.transaction.specs.declared.Cause.the-variants.{Nesting}
 use Rattle.transaction.specs.declared.Touch.the-variants.{Untouched}
 use Rattle.transaction.specs.declared.Write.the-variants.{Log}
-use Rattle.thread.specs.Texasr.{tl, begun}
+use Rattle.thread.specs.Texasr.{tl, begun, nested}
 use Rattle.thread.specs.Thread.{with-cr0, with-control, with-transaction, with-failure, with-texasr, in-state, take-checkpoint, handling}
 use Rattle.thread.specs.declared.State.{State}
 use Rattle.thread.specs.declared.State.the-variants.{N, T, S}
@@ -26,7 +26,7 @@ begins k r =
 
 unfoldable pub tbegin : State → Thread → Bool → Did
 tbegin N t r = passes (with-control (take-checkpoint (cr0-from-state t)) (begins (t .control) r))
-tbegin T t r = cond (leb most-levels (tl (t .control .failure .texasr))) (fails t Nesting) (leveled t (t .control .failure .texasr + 1))
+tbegin T t r = cond (leb most-levels (tl (t .control .failure .texasr))) (fails t Nesting) (leveled t (nested (t .control .failure .texasr) r))
 tbegin S t r = cr0-only t
 
 -- 2. tend. (A): the last level, or A = 1, commits: the log goes to memory, and nothing of the transaction is left

@@ -1,10 +1,11 @@
 // tbegin., tend. and tsr., each on its thread's rows.
 ghost use mathlib.Core.Path.{_≡_};
 ghost use mathlib.Core.List.{List};
-ghost use Prim.Native.Nat.{ℕ, _≤_};
+ghost use Prim.Native.Nat.{ℕ, _≤_, _<_};
 ghost use Rattle.base.specs.Answers as answer;
-ghost use Rattle.base.specs.Limits.{most-places};
+ghost use Rattle.base.specs.Limits.{most-levels, most-places};
 ghost use Rattle.transaction.specs.declared.Touch.the-variants.{Untouched};
+ghost use Rattle.thread.specs.Texasr.{tl, nested};
 ghost use Rattle.rows.specs.Rows.{head-of, held, standing};
 ghost use Rattle.rows.specs.Landed.{landed};
 ghost use Rattle.power_common.specs.Common.{did};
@@ -51,6 +52,17 @@ fn opened(h: Head, r: bool) -> Head
     place::advanced(g)
 }
 
+// TEXASR after a tbegin. in a transaction whose level has room: one level more, and ROT off if R = 0 (rule E1).
+fn nested(x: u64, r: bool) -> u64
+    requires { ⌜ tl x < most-levels ⌝ }
+    ensures { λ y. ⌜ y ≡ nested x r ⌝ }
+{
+    if r {
+        return x + 1;
+    }
+    x - thread::rot(x) * 0x0200_0000 + 1
+}
+
 // tbegin. (R)
 pub fn tbegin(
     gpr: &mut [u64; GPRS],
@@ -85,7 +97,7 @@ pub fn tbegin(
                     Cause::Nesting,
                 );
             }
-            rows::write_head(&mut *words, place::leveled(h, f.texasr + 1));
+            rows::write_head(&mut *words, place::leveled(h, nested(f.texasr, r)));
             answer::DONE
         }
         State::S => {

@@ -1,14 +1,14 @@
 -- Laws of TEXASR's fields, of recording and of handling.
-use mathlib.Core.Path.{_≡_, refl, ap, _∙_}
+use mathlib.Core.Path.{_≡_, refl, sym, ap, _∙_}
 use mathlib.Core.Bool.{Bool, true, false}
-use Prim.Native.Nat.{ℕ, _<_, _^_}
+use Prim.Native.Nat.{ℕ, _+_, _-_, _*_, _/_, _%_, _<_, _^_}
 use native.Mathlib.Omega.{arith}
 use borrow.Author.Tests.{eq-eqb}
 use Rattle.base.specs.Below.{bit}
 use Rattle.base.proofs.Below.{bit-lt}
 use lib.Dec.{eqb}
 use Rattle.transaction.specs.declared.Cause.{Cause}
-use Rattle.thread.specs.Texasr.{fs, rot, tl, upper, packed, begun, cause-bits}
+use Rattle.thread.specs.Texasr.{weight, fs, rot, tl, upper, packed, begun, nested, cause-bits}
 use Rattle.thread.specs.Thread.{failed, suspended, noted, recording}
 use Rattle.thread.specs.declared.State.{State}
 use Rattle.thread.specs.declared.State.the-variants.{N, T, S}
@@ -46,6 +46,28 @@ begun-tl false = refl
 pub begun-rot : (b : Bool) → rot (begun (bit b)) ≡ bit b
 begun-rot true = refl
 begun-rot false = refl
+
+even-by-4 : (n : ℕ) → (n - n % 2) / 4 ≡ n / 4
+even-by-4 n = omega arith
+
+-- what a nested tbegin. leaves, where the level has room: FS as it was, one level more, ROT as it was if R = 1 and else off
+module _ (x : ℕ) (h : tl x + 1 < 2 ^ 12) where
+  pub nested-fs : (b : Bool) → fs (nested x b) ≡ fs x
+  nested-fs true = omega arith
+  nested-fs false =
+      let y = nested x false in
+      let q : y / weight 38 ≡ x / weight 38 - rot x = omega arith in
+      let a : x / weight 36 ≡ x / weight 38 / 4 = omega arith in
+      let b : y / weight 36 ≡ y / weight 38 / 4 = omega arith in
+      ap (λ (n : ℕ). n % 2) (b ∙ ap (λ (n : ℕ). n / 4) q ∙ even-by-4 (x / weight 38) ∙ sym a)
+
+  pub nested-tl : (b : Bool) → tl (nested x b) ≡ tl x + 1
+  nested-tl true = omega arith
+  nested-tl false = omega arith
+
+  pub nested-rot : (b : Bool) → rot (nested x b) ≡ bit b * rot x
+  nested-rot true = omega arith
+  nested-rot false = omega arith
 
 -- a noted failure has FS = 1, and keeps ROT and TL
 module _ (k : Control) (cause : Cause) (exact : Bool) (at : ℕ) where

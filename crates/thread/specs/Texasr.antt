@@ -1,5 +1,6 @@
 -- TEXASR's fields, with bit 0 the highest of 64 (rules X1 to X6).
 use Prim.Native.Nat.{ℕ, _+_, _-_, _*_, _/_, _%_, _^_}
+use mathlib.Core.Bool.{Bool, true, false}
 use Rattle.transaction.specs.declared.Cause.{Cause}
 use Rattle.transaction.specs.declared.Cause.the-variants.{Disallowed, Nesting, Footprint, OwnStore, PlainConflict, Conflict, Abort}
 
@@ -27,6 +28,11 @@ lower x = x % 2 ^ 32
 -- level 1 with ROT, and all else 0: what an outermost tbegin. leaves
 abbrev pub begun : ℕ → ℕ
 begun r = r * weight 38 + 1
+
+-- one level more, and ROT off if R = 0: what a nested tbegin. leaves (rule E1)
+abbrev pub nested : ℕ → Bool → ℕ
+nested x true = x + 1
+nested x false = x - rot x * weight 38 + 1
 
 -- a failure: its cause in the upper half; suspended, PR, FS = 1, exact, ROT, TL
 abbrev pub packed : (cause suspended pr exact r level : ℕ) → ℕ

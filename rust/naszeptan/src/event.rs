@@ -27,7 +27,8 @@ use crate::{raw, Answer, Kind};
 /// ```
 #[derive(Clone, Copy, Debug, PartialEq, Eq, Hash)]
 pub enum Event {
-    /// 1: begins a transaction, or nests one. `r` makes it rollback-only.
+    /// 1: begins a transaction, or nests one. With `r` a new one is
+    /// rollback-only; a nested one without `r` ends that.
     Tbegin {
         /// R.
         r: bool,

@@ -1,14 +1,15 @@
 -- `power_begins::tbegin` meets its contract.
-use Prim.Native.Nat.{_+_, ℕ}
+use Prim.Native.Nat.{ℕ}
 use Rattle.base.specs.Answers as answer
 use Rattle.base.specs.Limits.{most-levels}
 use Rattle.power_begins.specs.Begins.{tbegin}
 use Rattle.power_begins.specs.Inner.{opened}
 use Rattle.power_common.specs.Common.{did, fails, leveled}
 use Rattle.power_common.specs.Inner as heads
+use Rattle.power_common.specs.declared.Did.{Did}
 use Rattle.rows.specs.Rows.{thread-with, standing}
 use Rattle.rows.specs.declared.Head.{Head}
-use Rattle.thread.specs.Texasr.{tl}
+use Rattle.thread.specs.Texasr.{tl, nested}
 use Rattle.thread.specs.declared.State.{State}
 use Rattle.thread.specs.declared.Thread.{Thread}
 use Rattle.transaction.specs.declared.Cause.the-variants.{Nesting}
@@ -31,13 +32,16 @@ by-state : (c : tie.After-read-head) (s : State) → c .read-head .result .contr
 by-state c s p ix vl = λ j. tbegin ((sym (ap (λ (h : Head). h .control .msr .state) (c .read-head .ensures)) ∙ p) j) (thread (c .before .before) ix vl) (c .before .before .args .r)
 
 -- what is done in T by the level
-nested : (c : tie.After-tl) (x : Bool) → leb most-levels (c .tl .result) ≡ x → (ix vl : List ℕ) → let t = thread (c .before .before .before .before .before .before .before .before) ix vl in
-    cond (leb most-levels (tl (t .control .failure .texasr))) (fails t Nesting) (leveled t (t .control .failure .texasr + 1))
-    ≡ cond x (fails t Nesting) (leveled t (t .control .failure .texasr + 1))
-nested c x p ix vl =
+abbrev in-t : Thread → Bool → Bool → Did
+in-t t r x = cond x (fails t Nesting) (leveled t (nested (t .control .failure .texasr) r))
+
+by-level : (c : tie.After-tl) (x : Bool) → leb most-levels (c .tl .result) ≡ x → (ix vl : List ℕ)
+    → let s = c .before .before .before .before .before .before .before .before in let t = thread s ix vl in
+    in-t t (s .args .r) (leb most-levels (tl (t .control .failure .texasr))) ≡ in-t t (s .args .r) x
+by-level c x p ix vl =
     let r = c .before .before .before .before .before .before in
-    let t = thread (r .before .before) ix vl in
-    ap (λ (y : Bool). cond y (fails t Nesting) (leveled t (t .control .failure .texasr + 1)))
+    let s = r .before .before in
+    ap (in-t (thread s ix vl) (s .args .r))
     (ap (λ (n : ℕ). leb most-levels n) (sym (c .tl .ensures .0 ∙ ap (λ (h : Head). tl (h .control .failure .texasr)) (r .read-head .ensures))) ∙ p)
 
 read-head-requires : tie.Need-read-head-requires
@@ -67,10 +71,10 @@ returns c =
     let i = c .before .before .before .before .before .before in
     let e = i .before .before .before in
     let r = e .before .before .before .before in
-    λ ix vl. c .fails .ensures ix vl ∙ sym (by-state r State.T (e .enum-told2 .given .1) ix vl ∙ nested (i .before) true (le-leb _ _ (i .if1 .taken)) ix vl)
+    λ ix vl. c .fails .ensures ix vl ∙ sym (by-state r State.T (e .enum-told2 .given .1) ix vl ∙ by-level (i .before) true (le-leb _ _ (i .if1 .taken)) ix vl)
 
-add-leveled : tie.Need-add-leveled
-add-leveled c = search needs
+nested-requires : tie.Need-nested-requires
+nested-requires c κs = search needs
 
 leveled-requires : tie.Need-leveled-requires
 leveled-requires c κs = search needs
@@ -104,9 +108,10 @@ returns-3 c =
     let e = i .before .before .before in
     let r = e .before .before .before .before in
     let s = r .before .before in
-    let g = c .write-head2 .ensures ∙ c .before .leveled .ensures ∙ ap (λ (h : Head). heads.leveled h (h .control .failure .texasr + 1)) (r .read-head .ensures) in
+    let g = c .write-head2 .ensures ∙ c .before .leveled .ensures ∙ ap (heads.leveled (r .read-head .result)) (c .before .before .nested .ensures)
+    ∙ ap (λ (h : Head). heads.leveled h (nested (h .control .failure .texasr) (s .args .r))) (r .read-head .ensures) in
     λ ix vl. (λ j. did answer.done (thread-with (g j) (s .args .gpr .now) (s .args .cr .now) (s .args .kgpr .now) (s .args .kcr .now) ix vl))
-    ∙ sym (by-state r State.T (e .enum-told2 .given .1) ix vl ∙ nested (i .before) false (lt-leb _ _ (i .if1 .left)) ix vl)
+    ∙ sym (by-state r State.T (e .enum-told2 .given .1) ix vl ∙ by-level (i .before) false (lt-leb _ _ (i .if1 .left)) ix vl)
 
 returns-4 : tie.Need-returns-4
 unfolding tbegin
@@ -129,7 +134,7 @@ tbegin-spec =
     tl-requires
     fails-requires
     returns
-    add-leveled
+    nested-requires
     leveled-requires
     write-head-requires-2
     enum-told-3
