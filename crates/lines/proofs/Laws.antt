@@ -200,14 +200,18 @@ same-more a b k t p q =
 -- ---- what a set holds
 
 -- the empty set holds no line, as a read past its words is 0 too
-pub has-empty : (l : ℕ) → has empty l ≡ false
-unfolding has empty
-has-empty l = ap (λ (x : ℕ). place x (l % 64)) (zeros 0 words (l / 64)) ∙ zero-place (l % 64)
+pub has-none : (n l : ℕ) → has (record { words = replicate n 0 }) l ≡ false
+unfolding has
+has-none n l = ap (λ (x : ℕ). place x (l % 64)) (zeros 0 n (l / 64)) ∙ zero-place (l % 64)
   where
     zeros : (z n k : ℕ) → getD (replicate n z) k z ≡ z
     zeros z zero k = refl
     zeros z (suc n) zero = refl
     zeros z (suc n) (suc k) = zeros z n k
+
+pub has-empty : (l : ℕ) → has empty l ≡ false
+unfolding empty
+has-empty l = has-none words l
 
 pub length-with : (s : LineSet) (l : ℕ) → length (with s l .words) ≡ length (s .words)
 unfolding with
