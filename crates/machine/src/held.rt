@@ -94,26 +94,13 @@ fn indices_inside(x: Transaction, len: usize) -> bool
     true
 }
 
-// All lines lie in memory: once one does, so do all below it.
+// All lines lie in memory: none that begins at its end or past it is in a set.
 fn lines_inside(x: Transaction, len: usize) -> bool
     ensures { λ r. ⌜ r ≡ lines-inside x len ⌝ }
 {
     let r = x.reads;
     let w = x.writes;
-    let mut l = LINES;
-    while 0 < l {
-        l -= 1;
-        if l * LINE < len {
-            return true;
-        }
-        if lines::has(r, l) {
-            return false;
-        }
-        if lines::has(w, l) {
-            return false;
-        }
-    }
-    true
+    lines::ends(r, w, len / LINE + (len % LINE + LINE - 1) / LINE)
 }
 
 // The index at a place is none of those before it.
