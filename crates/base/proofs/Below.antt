@@ -151,7 +151,7 @@ module _ {v : Bool} (f : ℕ → Bool) (i : ℕ) (e : v ≡ any-below f i) where
   any-failed h = sym (e ∙ any-none f i h)
 
 -- one passes unless all fail
-any-not : (f : ℕ → Bool) (n : ℕ) → any-below f n ≡ not (all-below (λ i. not (f i)) n)
+pub any-not : (f : ℕ → Bool) (n : ℕ) → any-below f n ≡ not (all-below (λ i. not (f i)) n)
 unfolding all-below any-below
 any-not f zero = refl
 any-not f (suc n) = go (f n) (any-not f n)

@@ -1,6 +1,6 @@
 -- Laws of the line sets: places of words, what a set holds after a line was added, footprints and meetings.
-use mathlib.Core.Path.{_≡_, refl, sym, ap, _∙_}
-use mathlib.Core.Bool.{Bool, true, false, _&&_, _||_, not, Bool·beq, and-comm, or-comm, or-false, or-true, true≢false}
+use mathlib.Core.Path.{_≡_, refl, sym, ap, subst, _∙_}
+use mathlib.Core.Bool.{Bool, true, false, _&&_, _||_, not, Bool·beq, and-comm, or-comm, or-false, or-true, and-true, true≢false}
 use mathlib.Core.List.{List}
 use Prim.Native.Nat.{ℕ, zero, suc, _+_, _-_, _*_, _/_, _%_, _^_, _≤_, _<_, min, max}
 use native.Mathlib.Nat.{mod-lt, zero-div, div-one, lt-of-le-of-lt}
@@ -8,18 +8,18 @@ use native.Mathlib.Decide.{ℕ-discrete, decLt}
 use native.Mathlib.Omega.{arith}
 use native.Mathlib.Numerals.{one-add}
 use lib.Arith.{digits-mod, lt-one}
-use lib.Pow.{shr-shr}
+use lib.Pow.{shr-shr, shr-lt}
 use lib.Bits.{bitAnd, bitOr, and-shr, and-step, and-le-l, or-shr, or-step, or-lt}
 use lib.Count.{ones, ones-step}
-use lib.Dec.{eqb, eqb·suc-zero, eqb·zero-suc, eqb·suc-suc, lit<}
+use lib.Dec.{eqb, ltb, eqb·suc-zero, eqb·zero-suc, eqb·suc-suc, lit<}
 use lib.ListN.{getD, length, length-set, replicate}
 use lib.Seq.{getD-set-same, getD-set-other, set-out}
-use borrow.Author.Tests.{eq-eqb, ne-eqb, eqb-true}
+use borrow.Author.Tests.{eq-eqb, ne-eqb, eqb-true, lt-ltb, le-ltb}
 use Rattle.base.specs.Limits.{lines, words}
 use Rattle.base.specs.Below.{bit, all-below, any-below, count-below}
-use Rattle.base.proofs.Below.{all-at, all-from, all-cong, all-add, any-at, any-false, any-false-at, any-witness, any-cong, any-add, count-low, count-cong, count-le, count-add, count-one, and-intro, bit-lt, bit-test, digit-bit}
+use Rattle.base.proofs.Below.{all-at, all-from, all-cong, all-add, any-at, any-false, any-false-at, any-witness, any-not, any-cong, any-add, count-low, count-cong, count-le, count-add, count-one, and-intro, bit-lt, bit-test, digit-bit}
 use Rattle.lines.specs.Lines.{place, word, empty, has, with, meets, footprint}
-use Rattle.lines.specs.Inner.{shared, alike, joined}
+use Rattle.lines.specs.Inner.{shared, alike, joined, clear-from}
 use Rattle.lines.specs.declared.LineSet.{LineSet}
 
 -- ---- the places of a word
@@ -126,6 +126,37 @@ pub joined-le : (a b : ℕ) → joined a b ≤ 64
 unfolding joined
 joined-le a b = count-le _ 64
 
+-- a place of a word shifted
+place-shifted : (v s i : ℕ) → place v (s + i) ≡ place (v / 2 ^ s) i
+unfolding place
+place-shifted v s i = ap (λ (x : ℕ). eqb (x % 2) 1) (sym (shr-shr v s i))
+
+-- no place from s on is set in either of two words unless the joined word, shifted, is 0
+pub clear-shifted : (a b s : ℕ) → a < 2 ^ 64 → b < 2 ^ 64 → s < 64 → clear-from a b s ≡ eqb (bitOr a b / 2 ^ s) 0
+unfolding clear-from
+clear-shifted a b s h k l =
+    all-cong _ (λ i. ltb i s || not (place v i)) 64 (λ i q. ap (λ (x : Bool). ltb i s || not x) (sym (or-place a b i)))
+    ∙ ap (all-below (λ i. ltb i s || not (place v i))) (let e : 64 ≡ s + (64 - s) = omega arith in e)
+    ∙ all-add (λ i. ltb i s || not (place v i)) s (64 - s)
+    ∙ (λ j. upper j && all-from (λ i. ltb i s || not (place v i)) s (λ i q. simp (lt-ltb i s q)) j)
+    ∙ and-true (all-below (λ i. not (place u i)) (64 - s))
+    ∙ not-back (all-below (λ i. not (place u i)) (64 - s)) (eqb u 0) (sym (any-not (place u) (64 - s)) ∙ any-place (64 - s) u (shr-lt (64 - s) s (subst (λ (x : ℕ). v < 2 ^ x) (let e : 64 ≡ 64 - s + s = omega arith in e) (or-lt 64 a b h k))))
+  where
+    v : ℕ
+    v = bitOr a b
+
+    u : ℕ
+    u = v / 2 ^ s
+
+    upper : all-below (λ i. ltb (s + i) s || not (place v (s + i))) (64 - s) ≡ all-below (λ i. not (place u i)) (64 - s)
+    upper = all-cong _ _ (64 - s) (λ i q. simp (le-ltb (s + i) s (omega arith)) (ap not (place-shifted v s i)))
+
+    not-back : (x y : Bool) → not x ≡ not y → x ≡ y
+    not-back true true e = refl
+    not-back true false e = sym e
+    not-back false true e = sym e
+    not-back false false e = refl
+
 -- two words share a place unless their bitwise and is 0
 pub shared-and : (a b : ℕ) → a < 2 ^ 64 → shared a b ≡ not (eqb (bitAnd a b) 0)
 unfolding shared
@@ -197,17 +228,39 @@ same-more a b k t p q =
     ∙ ap (λ (x : Bool). x && all-below (agree a b) (64 * (k - 1)))
     (all-cong _ _ 64 (λ i h. λ j. Bool·beq (at-word a (k - 1) i h j) (at-word b (k - 1) i h j)) ∙ q)
 
+-- a line is below n, or in neither set
+abbrev pub before : LineSet → LineSet → ℕ → ℕ → Bool
+before a b n l = ltb l n || not (has a l || has b l)
+
+shifted : (m i n : ℕ) → ltb (m + i) n ≡ ltb i (n - m)
+shifted m i n = go (decLt i (n - m))
+  where
+    go : Dec (i < n - m) → ltb (m + i) n ≡ ltb i (n - m)
+    go (yes h) = lt-ltb (m + i) n (omega arith) ∙ sym (lt-ltb i (n - m) h)
+    go (no h) = le-ltb (m + i) n (omega arith) ∙ sym (le-ltb i (n - m) (omega arith))
+
+pub ends-more : (a b : LineSet) (n k : ℕ) (t : Bool) → 0 < k → clear-from (word a (k - 1)) (word b (k - 1)) (n - 64 * (k - 1)) ≡ t → all-below (before a b n) (64 * k) ≡ (t && all-below (before a b n) (64 * (k - 1)))
+unfolding clear-from
+ends-more a b n k t p q =
+    ap (all-below _) (let e : 64 * k ≡ 64 * (k - 1) + 64 = omega arith in e) ∙ all-add (before a b n) (64 * (k - 1)) 64
+    ∙ ap (λ (x : Bool). x && all-below (before a b n) (64 * (k - 1)))
+    (all-cong _ _ 64 (λ i h. λ j. shifted (64 * (k - 1)) i n j || not (at-word a (k - 1) i h j || at-word b (k - 1) i h j)) ∙ q)
+
 -- ---- what a set holds
 
 -- the empty set holds no line, as a read past its words is 0 too
-pub has-empty : (l : ℕ) → has empty l ≡ false
-unfolding has empty
-has-empty l = ap (λ (x : ℕ). place x (l % 64)) (zeros 0 words (l / 64)) ∙ zero-place (l % 64)
+pub has-none : (n l : ℕ) → has (record { words = replicate n 0 }) l ≡ false
+unfolding has
+has-none n l = ap (λ (x : ℕ). place x (l % 64)) (zeros 0 n (l / 64)) ∙ zero-place (l % 64)
   where
     zeros : (z n k : ℕ) → getD (replicate n z) k z ≡ z
     zeros z zero k = refl
     zeros z (suc n) zero = refl
     zeros z (suc n) (suc k) = zeros z n k
+
+pub has-empty : (l : ℕ) → has empty l ≡ false
+unfolding empty
+has-empty l = has-none words l
 
 pub length-with : (s : LineSet) (l : ℕ) → length (with s l .words) ≡ length (s .words)
 unfolding with

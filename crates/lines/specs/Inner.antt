@@ -1,6 +1,7 @@
 -- What the code's own contracts cite beside the rules: sets compared, and two words of them.
 use Prim.Native.Nat.{ℕ}
-use mathlib.Core.Bool.{Bool, _&&_, _||_, Bool·beq}
+use mathlib.Core.Bool.{Bool, not, _&&_, _||_, Bool·beq}
+use lib.Dec.{ltb}
 use Rattle.base.specs.Limits.{lines}
 use Rattle.base.specs.Below.{all-below, any-below, count-below}
 use Rattle.lines.specs.Lines.{place, has}
@@ -9,6 +10,14 @@ use Rattle.lines.specs.declared.LineSet.{LineSet}
 -- two sets hold the same lines
 unfoldable pub same : LineSet → LineSet → Bool
 same a b = all-below (λ l. Bool·beq (has a l) (has b l)) lines
+
+-- no line from n on is in either set
+unfoldable pub ends : LineSet → LineSet → ℕ → Bool
+ends a b n = all-below (λ l. ltb l n || not (has a l || has b l)) lines
+
+-- of two words: no place from s on is set in either
+unfoldable pub clear-from : ℕ → ℕ → ℕ → Bool
+clear-from a b s = all-below (λ i. ltb i s || not (place a i || place b i)) 64
 
 -- of two words: a place is set in both; the same places are set; how many places are set in either
 unfoldable pub shared : ℕ → ℕ → Bool

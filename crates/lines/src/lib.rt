@@ -1,8 +1,8 @@
 // Sets of lines: one bit for each of 256 lines, in four words (rules M9 and M10).
 ghost use mathlib.Core.Path.{_≡_};
-ghost use Prim.Native.Nat.{_<_};
+ghost use Prim.Native.Nat.{_-_, _<_};
 ghost use Rattle.base.specs.Limits.{lines};
-ghost use Rattle.lines.specs.Inner.{same, joined, shared, alike};
+ghost use Rattle.lines.specs.Inner.{same, ends, clear-from, joined, shared, alike};
 ghost use Rattle.lines.specs.Lines.{empty, has, with, meets, footprint};
 use base::WORDS;
 
@@ -96,4 +96,38 @@ pub fn footprint(r: LineSet, w: LineSet) -> u32
         n += joined(r.words[k], w.words[k]);
     }
     n
+}
+
+// A number less another, or 0 where that is more.
+fn less(n: usize, m: usize) -> usize
+    ensures { λ r. ⌜ r ≡ n - m ⌝ }
+{
+    if n < m {
+        return 0;
+    }
+    n - m
+}
+
+// No place from s on is set in either of two words.
+fn clear_from(a: u64, b: u64, s: usize) -> bool
+    ensures { λ r. ⌜ r ≡ clear-from a b s ⌝ }
+{
+    if 64 <= s {
+        return true;
+    }
+    (a | b) >> s == 0
+}
+
+// No line from n on is in either set.
+pub fn ends(r: LineSet, w: LineSet, n: usize) -> bool
+    ensures { λ b. ⌜ b ≡ ends r w n ⌝ }
+{
+    let mut k = WORDS;
+    while 0 < k {
+        k -= 1;
+        if !clear_from(r.words[k], w.words[k], less(n, 64 * k)) {
+            return false;
+        }
+    }
+    true
 }

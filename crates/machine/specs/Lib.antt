@@ -1,2 +1,3 @@
+pub mod Inner
 pub mod Machine
 pub mod Valid

@@ -1,16 +1,22 @@
 // What a transaction holds in a valid machine: places, indices, lines (rules V2, V10 to V12), for any value of the struct.
 ghost use mathlib.Core.Path.{_≡_};
-ghost use Prim.Native.Nat.{ℕ, _<_, _≤_};
-ghost use Rattle.base.specs.Limits.{lines, most-places};
-ghost use Rattle.lines.specs.Lines.{has};
+ghost use mathlib.Core.Bool.{not};
+ghost use Prim.Native.Nat.{ℕ, _+_, _<_, _≤_};
+ghost use Rattle.base.specs.Limits.{lines, most-memory, most-places};
+ghost use Rattle.lines.specs.Lines.{has, with};
+ghost use Rattle.machine.specs.Inner.{Seen};
 ghost use Rattle.machine.specs.Valid.{place-right, unused-zero, no-line, holds-nothing, indices-inside, lines-inside, unlike, distinct, logs-line, writes-logged, held-right};
 use base::LINE;
 use base::LINES;
+use base::MEMORY;
 use base::PLACES;
 use base::WORDS;
 use lines::LineSet;
 use transaction::Entry;
 use transaction::Transaction;
+
+// Words of a set of doublewords, of 64 each.
+const SEEN: usize = MEMORY / 64;
 
 // A place of the log is used, or zero.
 fn place_right(e: Entry, n: usize, count: usize) -> bool
@@ -88,26 +94,13 @@ fn indices_inside(x: Transaction, len: usize) -> bool
     true
 }
 
-// All lines lie in memory: once one does, so do all below it.
+// All lines lie in memory: none that begins at its end or past it is in a set.
 fn lines_inside(x: Transaction, len: usize) -> bool
     ensures { λ r. ⌜ r ≡ lines-inside x len ⌝ }
 {
     let r = x.reads;
     let w = x.writes;
-    let mut l = LINES;
-    while 0 < l {
-        l -= 1;
-        if l * LINE < len {
-            return true;
-        }
-        if lines::has(r, l) {
-            return false;
-        }
-        if lines::has(w, l) {
-            return false;
-        }
-    }
-    true
+    lines::ends(r, w, len / LINE + (len % LINE + LINE - 1) / LINE)
 }
 
 // The index at a place is none of those before it.
@@ -127,15 +120,42 @@ fn unlike(x: Transaction, n: usize) -> bool
     true
 }
 
+// Whether the doubleword was in the set; from now on it is.
+fn marked(ws: &mut [u64; SEEN], d: usize) -> bool
+    requires { ⌜ d < most-memory ⌝ }
+    ensures { λ r. ⌜ r ≡ has (record { words = now (ws .entry) }) d ⌝ }
+    ensures { λ _. ⌜ record { words = now (ws .exit) } ≡ with (record { words = now (ws .entry) }) d ⌝ }
+{
+    let k = d / 64;
+    let w = ws[k];
+    ws[k] = w | (1 << (d % 64));
+    (w >> (d % 64)) % 2 == 1
+}
+
+// Whether a place before n has the index of place n. Indices past the largest memory are compared one by one: no valid log has one.
+fn again(ws: &mut [u64; SEEN], x: Transaction, n: usize) -> bool
+    requires { ⌜ n < most-places ⌝ }
+    requires { ⌜ Seen (now ws) (x .log) n ⌝ }
+    ensures { λ r. ⌜ r ≡ not (unlike x n) ⌝ }
+    ensures { λ _. ⌜ Seen (now (ws .exit)) (x .log) (n + 1) ⌝ }
+{
+    let e = x.log[n];
+    let d = e.index as usize;
+    if d < MEMORY {
+        return marked(&mut *ws, d);
+    }
+    !unlike(x, n)
+}
+
 // Log indices are distinct.
 fn distinct(x: Transaction) -> bool
     requires { ⌜ x .count ≤ most-places ⌝ }
     ensures { λ r. ⌜ r ≡ distinct x ⌝ }
 {
-    let mut n = x.count;
-    while 0 < n {
-        n -= 1;
-        if !unlike(x, n) {
+    let mut ws = [0; SEEN];
+    let n = x.count;
+    for i in 0..n {
+        if again(&mut ws, x, i) {
             return false;
         }
     }

@@ -1,10 +1,10 @@
 // The valid machine, clause by clause (rules V1 to V14), for any value of the struct, however broken.
 ghost use mathlib.Core.Path.{_≡_};
-ghost use mathlib.Core.Bool.{_||_};
+ghost use mathlib.Core.Bool.{cond, _||_};
 ghost use Prim.Native.Nat.{_<_};
 ghost use Rattle.base.specs.Limits.{most-threads};
 ghost use Rattle.lines.specs.Lines.{meets};
-ghost use Rattle.machine.specs.Valid.{memory-sized, sized, aligned, cr-small, fields-small, live-rules, state-rules, thread-valid, clear-of, apart, thread-right, threads-right, valid, machine-number};
+ghost use Rattle.machine.specs.Valid.{memory-sized, sized, aligned, cr-small, fields-small, live-rules, state-rules, thread-valid, clear-of, apart, thread-right, threads-right, zero-thread, valid, machine-number};
 use crate::Machine;
 use crate::held;
 use crate::zeros;
@@ -204,15 +204,38 @@ fn apart(m: Machine) -> bool
 }
 
 // A thread record is valid, or past the count and zero.
+fn record_right(t: Thread, len: usize, below: bool) -> bool
+    ensures { λ r. ⌜ r ≡ cond below (thread-valid t len) (zero-thread t) ⌝ }
+{
+    if below {
+        return thread_valid(t, len);
+    }
+    zeros::zero_thread(t)
+}
+
+// The same of record w. A case each: an index that is not known would copy all records to take one.
 fn thread_right(m: Machine, len: usize, w: usize) -> bool
     requires { ⌜ w < most-threads ⌝ }
     ensures { λ r. ⌜ r ≡ thread-right m len w ⌝ }
 {
-    let t = m.threads[w];
-    if w < m.count {
-        return thread_valid(t, len);
+    match w {
+        0 => {
+            let t = m.threads[0];
+            record_right(t, len, 0 < m.count)
+        }
+        1 => {
+            let t = m.threads[1];
+            record_right(t, len, 1 < m.count)
+        }
+        2 => {
+            let t = m.threads[2];
+            record_right(t, len, 2 < m.count)
+        }
+        _ => {
+            let t = m.threads[3];
+            record_right(t, len, 3 < m.count)
+        }
     }
-    zeros::zero_thread(t)
 }
 
 fn threads_right(m: Machine, len: usize) -> bool
