@@ -8,6 +8,7 @@
 //! - [`plan`]: which event comes next.
 //! - [`cells`]: which answers can be met where, by hand from docs/RULES.md.
 //! - [`sights`]: situations that must be met beside those.
+//! - [`past`]: what of a transaction's past they need.
 //! - [`counts`]: how often each was met, and what was not.
 //! - [`batch`]: a numbered piece of the comparison, and a worker's share.
 //! - [`workers`]: the shares, each in a process of its own.
@@ -22,6 +23,7 @@ pub mod calls;
 pub mod cells;
 pub mod counts;
 pub mod pair;
+pub mod past;
 pub mod plan;
 pub mod shrink;
 pub mod sides;

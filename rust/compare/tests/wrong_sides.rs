@@ -9,7 +9,8 @@ use compare::start::{Kind, Start};
 use naszeptan::raw;
 
 const SEED: u64 = 7;
-const EVENTS: u64 = 10_000;
+/// Enough for the rarest to be met; a test ends where it finds the first.
+const EVENTS: u64 = 40_000;
 
 /// The failure that the comparison finds.
 fn found<S: Side>(side: &S) -> Failure {
@@ -88,6 +89,36 @@ fn a_wrong_field_is_shrunk_to_begin_and_end() {
         "one commit is enough\n{case}"
     );
     assert!(text.contains("checkpoint"), "{text}");
+}
+
+/// TEXASR's bit 38.
+const ROT: u64 = 1 << (63 - 38);
+
+/// Leaves ROT on at a nested tbegin. with R = 0.
+struct LeavesRot;
+
+impl Side for LeavesRot {
+    fn step(&self, m: &mut raw::Machine, memory: &mut [u64], e: raw::Event) -> u8 {
+        let thread = usize::from(e.thread);
+        let before = m.threads.get(thread).map(|t| t.control);
+        let answer = Archive.step(m, memory, e);
+        if let (1, 0, Some(before)) = (e.kind, answer, before) {
+            if before.state == 1 {
+                m.threads[thread].control.texasr |= before.texasr & ROT;
+            }
+        }
+        answer
+    }
+}
+
+#[test]
+fn rot_left_on_is_shrunk_to_two_begins() {
+    let (case, text) = shrunk(&LeavesRot);
+    assert!(
+        matches!(kinds(&case)[..], [1] | [1, 1]),
+        "one nested tbegin. is enough\n{case}"
+    );
+    assert!(text.contains("TEXASR"), "{text}");
 }
 
 /// Writes one doubleword too many: the one after a plain store's.
