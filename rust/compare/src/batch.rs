@@ -5,13 +5,12 @@
 use std::fmt;
 
 use model::gen::Rng;
-use model::Machine;
-use naszeptan::raw;
 
 use crate::calls;
 use crate::cells::Before;
 use crate::counts::Counts;
 use crate::pair::Pair;
+use crate::past::Past;
 use crate::plan::Plan;
 use crate::shrink::Case;
 use crate::sides::{record, Side};
@@ -109,12 +108,16 @@ fn sequence<S: Side>(
 ) -> Result<(), Found> {
     let mut pair = Pair::new(start);
     let mut plan = Plan::default();
+    let mut past = Past::new(pair.machine());
     let mut records = Vec::with_capacity(length);
     for _ in 0..length {
         let e = plan.next(rng, pair.machine(), pair.memory().len());
         records.push(record(e));
         let before = Before::of(pair.machine(), e.thread);
-        let sights = seen(pair.machine(), e);
+        let event = model::read(&record(e));
+        let sights = event.map_or(0, |(thread, e)| {
+            sights::seen(pair.machine(), &past, thread, e)
+        });
         match pair.step(side, e) {
             Ok(done) => {
                 counts.event(e.kind, before, done.answer, sights);
@@ -128,15 +131,11 @@ fn sequence<S: Side>(
                 }))
             }
         }
+        if let Ok((thread, e)) = event {
+            past.note(pair.machine(), thread, e);
+        }
     }
     Ok(())
-}
-
-fn seen(m: &Machine, e: raw::Event) -> u64 {
-    match model::read(&record(e)) {
-        Ok((thread, e)) => sights::seen(m, thread, e),
-        Err(_) => 0,
-    }
 }
 
 /// One worker's share of the batches for this many events: every batch whose

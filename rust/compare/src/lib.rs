@@ -9,6 +9,7 @@
 //! - [`cells`]: which answers can be met where, by hand from docs/RULES.md.
 //! - [`masks`]: who can fail in which event, by hand from there too.
 //! - [`sights`]: situations that must be met beside those.
+//! - [`past`]: what of a transaction's past they need.
 //! - [`counts`]: how often each was met, and what was not.
 //! - [`batch`]: a numbered piece of the comparison, and a worker's share.
 //! - [`workers`]: the shares, each in a process of its own.
@@ -24,6 +25,7 @@ pub mod cells;
 pub mod counts;
 pub mod masks;
 pub mod pair;
+pub mod past;
 pub mod plan;
 pub mod shrink;
 pub mod sides;

@@ -122,6 +122,9 @@ fn scene(rng: &mut Rng, m: &Machine, len: usize) -> Vec<(u8, Event)> {
         first: rng.below((len / LINE).max(1)),
         len,
     };
+    if rng.one_in(6) {
+        return rot_off(rng, &stage);
+    }
     let r = rng.one_in(4);
     let begin = Event::Tbegin { r };
     match rng.below(8) {
@@ -165,6 +168,27 @@ fn full_footprint(rng: &mut Rng, stage: &Stage, begin: Event) -> Vec<(u8, Event)
         })
         .collect();
     alone(stage.me.into(), std::iter::once(begin).chain(accesses))
+}
+
+/// A ROT that loads, tracks its loads from a nested tbegin. on, ends that level,
+/// and meets another thread's stores to what it loaded before and after. Some
+/// have written all lines that they may, so that the tracked load overflows.
+fn rot_off(rng: &mut Rng, stage: &Stage) -> Vec<(u8, Event)> {
+    let (before, after) = (stage.index(0, 1), stage.index(1, 2));
+    let lines = if rng.one_in(3) { MAX_FOOTPRINT } else { 0 };
+    let stores = (0..lines as usize).map(|n| Event::Std {
+        ra: 5,
+        index: stage.index(n + 2, n),
+    });
+    let (rot, plain) = (Event::Tbegin { r: true }, Event::Tbegin { r: false });
+    let load = |index| Event::Ld { rt: 6, index };
+    let events = [rot, load(before)].into_iter().chain(stores);
+    let events = events.chain([plain, load(after), Event::Tend { a: false }]);
+    let mut scene = alone(stage.me.into(), events);
+    for index in [before, after] {
+        scene.push((stage.other, Event::Std { ra: 3, index }));
+    }
+    scene
 }
 
 /// Some levels down and up again, with a store at the bottom.

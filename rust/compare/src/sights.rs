@@ -1,13 +1,16 @@
 //! Situations that the comparison must meet, finer than kind, state and
-//! answer. Each is told from the machine before the event, and counts if the
-//! event was done.
+//! answer. Each is told from the machine before the event, some from a
+//! transaction's past too, and counts if the event was done.
 
 use model::machine::{LINE, LOG, MAX_FOOTPRINT, MAX_LEVEL};
 use model::{Event, Machine, State, Thread};
 
+use crate::past::Past;
+
 /// An event before it is done.
 pub struct View<'a> {
     machine: &'a Machine,
+    past: &'a Past,
     me: usize,
     thread: &'a Thread,
     event: Event,
@@ -17,7 +20,7 @@ pub struct View<'a> {
 type Sight = (u8, &'static str, fn(&View) -> bool);
 
 /// How many sights there are.
-pub const SIGHTS: usize = 55;
+pub const SIGHTS: usize = 64;
 
 /// All of them.
 #[rustfmt::skip]
@@ -25,11 +28,16 @@ pub const ALL: [Sight; SIGHTS] = [
     (1, "tbegin. at TL 15 overflows", |v| v.state(State::T) && v.thread.level() == MAX_LEVEL),
     (1, "tbegin. at TL 14 is done", |v| v.state(State::T) && v.thread.level() == MAX_LEVEL - 1),
     (1, "tbegin. starts a ROT", |v| v.state(State::N) && v.flag()),
-    (1, "tbegin. nested with another R", |v| v.state(State::T) && v.flag() != v.thread.rot()),
+    (1, "tbegin. R = 0 turns ROT off", |v| v.nested() && v.thread.rot() && !v.flag()),
+    (1, "tbegin. R = 1 leaves ROT on", |v| v.nested() && v.thread.rot() && v.flag()),
+    (1, "tbegin. R = 1 leaves ROT off", |v| v.nested() && !v.thread.rot() && v.flag()),
+    (1, "tbegin. R = 0 at TL 15 leaves ROT on", |v| v.state(State::T) && !v.nested() && v.thread.rot() && !v.flag()),
+    (1, "tbegin. R = 0 in S leaves ROT on", |v| v.state(State::S) && v.thread.rot() && !v.flag()),
     (1, "tbegin. at 2^64 - 4", |v| v.state(State::N) && v.thread.nia == !3),
     (2, "tend. commits a full log", |v| v.commits() && v.thread.count == LOG),
     (2, "tend. A = 1 commits a log at TL above 1", |v| v.commits() && v.thread.level() > 1 && v.thread.count > 0),
     (2, "tend. goes up one level", |v| v.state(State::T) && !v.commits()),
+    (2, "tend. goes up one level after ROT went off", |v| v.state(State::T) && !v.commits() && v.past.off(v.me)),
     (3, "tabort. RA 0 with r0 not 0", |v| v.thread.is_live() && v.ra() == 0 && v.thread.live.gpr[0] != 0),
     (3, "tabort. with a code", |v| v.thread.is_live() && v.ra() != 0 && v.gpr(v.ra()) & 0xFF != 0),
     (3, "tabort. with bits above the code", |v| v.thread.is_live() && v.ra() != 0 && v.gpr(v.ra()) > 0xFF),
@@ -60,6 +68,8 @@ pub const ALL: [Sight; SIGHTS] = [
     (12, "ld overflows the footprint", |v| v.overflows_lines()),
     (12, "ld in a ROT past a full footprint", |v| v.state(State::T) && v.thread.rot() && !v.has_line() && v.thread.footprint() == MAX_FOOTPRINT),
     (12, "ld overflows a line that another writes", |v| v.overflows_lines() && v.victims() > 0),
+    (12, "ld in T after ROT went off", |v| v.state(State::T) && v.past.off(v.me)),
+    (12, "ld overflows after ROT went off", |v| v.overflows_lines() && v.past.off(v.me)),
     (12, "ld of its own logged value in T", |v| v.state(State::T) && v.logged()),
     (12, "ld of its own logged value in S", |v| v.state(State::S) && v.logged()),
     (12, "ld in T fails one in T", |v| v.fails(true, State::T)),
@@ -76,13 +86,15 @@ pub const ALL: [Sight; SIGHTS] = [
     (13, "std not in T fails one in T", |v| v.fails(false, State::T)),
     (13, "std not in T fails one in S", |v| v.fails(false, State::S)),
     (13, "std fails two or more", |v| v.victims() > 1 && !v.overflows_log() && !v.overflows_lines()),
+    (13, "std to a line loaded before ROT went off", |v| v.others().any(|(n, t)| v.past.loaded(n, v.line()) && !has(t, v.line()))),
+    (13, "std fails one by a load after ROT went off", |v| v.others().any(|(n, t)| v.past.off(n) && v.is_victim(n, t) && !t.writes.contains(v.line()))),
     (16, "interrupt of a transaction with a log", |v| v.state(State::T) && v.thread.count > 0),
 ];
 
 const _: () = assert!(SIGHTS <= 64, "one bit each");
 
 /// The sights of this event, one bit each.
-pub fn seen(machine: &Machine, thread: u8, event: Event) -> u64 {
+pub fn seen(machine: &Machine, past: &Past, thread: u8, event: Event) -> u64 {
     let me = usize::from(thread);
     if me >= machine.count.min(machine.threads.len()) {
         return 0;
@@ -90,6 +102,7 @@ pub fn seen(machine: &Machine, thread: u8, event: Event) -> u64 {
     let thread = &machine.threads[me];
     let view = View {
         machine,
+        past,
         me,
         thread,
         event,
@@ -102,6 +115,11 @@ pub fn seen(machine: &Machine, thread: u8, event: Event) -> u64 {
         }
     }
     bits
+}
+
+/// Whether the line is in one of the thread's sets.
+fn has(t: &Thread, line: usize) -> bool {
+    t.reads.contains(line) || t.writes.contains(line)
 }
 
 impl View<'_> {
@@ -150,6 +168,11 @@ impl View<'_> {
         }
     }
 
+    /// Whether a tbegin. goes one level down.
+    fn nested(&self) -> bool {
+        self.state(State::T) && self.thread.level() < MAX_LEVEL
+    }
+
     fn commits(&self) -> bool {
         self.state(State::T) && (self.flag() || self.thread.level() == 1)
     }
@@ -167,7 +190,7 @@ impl View<'_> {
     }
 
     fn has_line(&self) -> bool {
-        self.thread.reads.contains(self.line()) || self.thread.writes.contains(self.line())
+        has(self.thread, self.line())
     }
 
     /// Whether the doubleword is in the thread's own log.
@@ -195,6 +218,12 @@ impl View<'_> {
         let store = matches!(self.event, Event::Std { .. });
         let line = self.line();
         n != self.me && t.is_live() && (t.writes.contains(line) || store && t.reads.contains(line))
+    }
+
+    /// The other threads' records.
+    fn others(&self) -> impl Iterator<Item = (usize, &Thread)> {
+        let threads = self.machine.threads.iter().enumerate();
+        threads.filter(|(n, _)| *n != self.me)
     }
 
     fn victims(&self) -> usize {

@@ -158,6 +158,36 @@ impl Side for TellsOfNoMachine {
     }
 }
 
+/// TEXASR's bit 38.
+const ROT: u64 = 1 << (63 - 38);
+
+/// Leaves ROT on at a nested tbegin. with R = 0.
+struct LeavesRot;
+
+impl Side for LeavesRot {
+    fn step(&self, m: &mut raw::Machine, memory: &mut [u64], e: raw::Event) -> Done {
+        let thread = usize::from(e.thread);
+        let before = m.threads.get(thread).map(|t| t.control);
+        let done = Archive.step(m, memory, e);
+        if let (1, 0, Some(before)) = (e.kind, done.answer, before) {
+            if before.state == 1 {
+                m.threads[thread].control.texasr |= before.texasr & ROT;
+            }
+        }
+        done
+    }
+}
+
+#[test]
+fn rot_left_on_is_shrunk_to_two_begins() {
+    let (case, text) = shrunk(&LeavesRot);
+    assert!(
+        matches!(kinds(&case)[..], [1] | [1, 1]),
+        "one nested tbegin. is enough\n{case}"
+    );
+    assert!(text.contains("TEXASR"), "{text}");
+}
+
 /// Writes one doubleword too many: the one after a plain store's.
 struct Spills;
 

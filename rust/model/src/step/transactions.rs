@@ -21,7 +21,8 @@ impl Thread {
         self.cr0 = self.ts() << 1;
     }
 
-    /// Event 1.
+    /// Event 1. Nested, R = 0 turns ROT off until the outer end, and R = 1
+    /// leaves it; at the highest level neither is looked at.
     pub(super) fn tbegin(&mut self, r: bool) -> Went {
         self.cr0_from_state();
         match self.state {
@@ -32,7 +33,10 @@ impl Thread {
                 self.texasr = if r { texasr::ROT | 1 } else { 1 };
             }
             State::T if self.level() == MAX_LEVEL => return self.fail_in_t(cause::NESTING),
-            State::T => self.texasr = self.texasr.wrapping_add(1),
+            State::T => {
+                let kept = if r { !0 } else { !texasr::ROT };
+                self.texasr = (self.texasr & kept).wrapping_add(1);
+            }
             State::S => {}
         }
         self.next()

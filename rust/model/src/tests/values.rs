@@ -1,6 +1,7 @@
-//! Rules K1 to K10: the bench values.
+//! Rules K1 to K13: the bench values.
 
 use super::*;
+use crate::machine::texasr;
 
 #[test]
 fn k1_tabort() {
@@ -134,4 +135,32 @@ fn k10_word_and_doubleword() {
         b.m.threads[0].live.gpr[3] = 0xFFFF_FFFF;
         b.done(TBEGIN).gives(e, number);
     }
+}
+
+#[test]
+fn k11_a_load_before_rot_went_off() {
+    let mut b = Bench::fresh();
+    b.done(TBEGIN_ROT).done(ld(1, 17)).done(TBEGIN);
+    assert_eq!(b.thread(0).texasr, 0x0000_0002);
+    b.done_by(1, std(2, 16)).is(State::T);
+    assert_eq!(b.thread(0).texasr, 0x0000_0002);
+}
+
+#[test]
+fn k12_a_load_after_rot_went_off() {
+    let mut b = Bench::fresh();
+    b.done(TBEGIN_ROT).done(TBEGIN).done(ld(1, 17));
+    b.done_by(1, std(2, 16)).is(State::N);
+    assert_eq!(b.thread(0).texasr, 0x0008_0000_1800_0002);
+}
+
+#[test]
+fn k13_the_highest_level_leaves_rot() {
+    let mut b = Bench::fresh();
+    for level in 1..=15 {
+        b.done(TBEGIN_ROT);
+        assert_eq!(b.thread(0).texasr, texasr::ROT | level);
+    }
+    b.gives(TBEGIN, 20);
+    assert_eq!(b.thread(0).texasr, 0x0040_0000_1E00_000F);
 }

@@ -58,6 +58,32 @@ fn rot_loads_join_no_set() {
     assert_eq!(b.thread(1).texasr, 0x0004_0000_1800_0001);
 }
 
+/// From the nested tbegin. with R = 0 on, loads are tracked and may overflow;
+/// those before it are not tracked after it either.
+#[test]
+fn loads_are_tracked_once_rot_is_off() {
+    let mut b = Bench::fresh();
+    b.done(TBEGIN_ROT).done(ld(1, 0)).done(std(1, 16));
+    b.done(TBEGIN);
+    assert!(b.thread(0).reads.is_empty());
+    assert_eq!(b.thread(0).footprint(), 1);
+    for line in 2..33 {
+        b.done(ld(1, line * 16));
+    }
+    assert_eq!(b.thread(0).footprint(), 32);
+    // Line 0, which was loaded under ROT, is new to the sets.
+    b.gives(ld(1, 0), 20);
+    assert_eq!(b.thread(0).texasr, 0x0020_0000_1C00_0002);
+    // With R = 1 the same load is done, and is not tracked.
+    let mut b = Bench::fresh();
+    b.done(TBEGIN_ROT);
+    for line in 1..33 {
+        b.done(std(1, line * 16));
+    }
+    b.done(TBEGIN_ROT).done(ld(1, 0));
+    assert!(b.thread(0).reads.is_empty());
+}
+
 #[test]
 fn a_line_of_either_set_is_not_new() {
     let mut b = Bench::begun();

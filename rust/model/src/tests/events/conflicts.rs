@@ -28,8 +28,8 @@ impl Meeting {
     fn victim(&self) -> Bench {
         let mut b = Bench::fresh();
         b.m.threads[1].pr = false;
+        // The inner tbegin. turns ROT off, so that loads are tracked.
         b.done_by(1, TBEGIN_ROT).done_by(1, TBEGIN);
-        b.m.threads[1].texasr &= !texasr::ROT;
         let first = if self.victim_writes {
             std(1, 33)
         } else {

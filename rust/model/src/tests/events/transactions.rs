@@ -23,28 +23,78 @@ fn tbegin_in_n() {
     });
 }
 
+/// What outer and inner R are.
+const RS: [(bool, bool); 4] = [(false, false), (false, true), (true, false), (true, true)];
+
+/// Nested, TL goes up, R = 0 turns ROT off, and all else of the thread stays:
+/// checkpoint, TFHAR, sets, log and the other bits of TEXASR.
 #[test]
 fn tbegin_nested() {
-    for (outer, inner) in [(false, true), (true, false)] {
+    for (outer, inner) in RS {
         let mut b = Bench::fresh();
         b.done(Event::Tbegin { r: outer });
-        b.m.threads[0].live.gpr[1] = 9;
-        b.done(Event::Tbegin { r: inner });
-        let t = b.thread(0);
-        assert_eq!(t.rot(), outer, "ROT as it was");
-        assert_eq!(t.level(), 2);
-        assert_eq!(t.cr0, 0b0100);
-        assert_eq!(t.tfhar, 4);
-        assert_eq!(t.checkpoint.gpr[1], 0);
-    }
-    // In S it sets CR0 alone.
-    for mut b in [Bench::suspended(), Bench::doomed()] {
-        b.makes(TBEGIN_ROT, |before| Thread {
-            cr0: 0b0010,
+        b.done(ld(2, 100)).done(std(2, 200));
+        let t = &mut b.m.threads[0];
+        t.live.gpr[1] = 9;
+        t.texasr |= !(texasr::ROT | texasr::FS | texasr::TL);
+        let rot = if outer && inner { texasr::ROT } else { 0 };
+        b.makes(Event::Tbegin { r: inner }, |before| Thread {
+            cr0: 0b0100,
             nia: before.nia + 4,
+            texasr: !(texasr::ROT | texasr::FS | texasr::TL) | rot | 2,
             ..before
         });
     }
+}
+
+/// In S it sets CR0 alone, and with R = 0 leaves ROT.
+#[test]
+fn tbegin_in_s() {
+    for (outer, inner) in RS {
+        for fails in [false, true] {
+            let mut b = Bench::fresh();
+            b.done(Event::Tbegin { r: outer }).done(TSUSPEND);
+            if fails {
+                b.gives(TABORT, 21);
+            }
+            b.makes(Event::Tbegin { r: inner }, |before| Thread {
+                cr0: 0b0010,
+                nia: before.nia + 4,
+                ..before
+            });
+            assert_eq!(b.thread(0).rot(), outer);
+        }
+    }
+}
+
+/// ROT stays off once it is: after an inner tend., and with R = 1.
+#[test]
+fn rot_does_not_come_back() {
+    let mut b = Bench::fresh();
+    b.done(TBEGIN_ROT).done(TBEGIN_ROT).done(TBEGIN);
+    assert_eq!(b.thread(0).texasr, 3);
+    b.done(TEND);
+    assert_eq!(b.thread(0).texasr, 2);
+    b.done(TBEGIN_ROT);
+    assert_eq!(b.thread(0).texasr, 3);
+    b.done(TSUSPEND).done(TRESUME).done(ld(1, 40));
+    assert!(b.thread(0).reads.contains(2));
+    b.done(Event::Tend { a: true });
+    assert_eq!(b.thread(0).texasr, 0);
+    // The next transaction begins as its own tbegin. says.
+    b.done(TBEGIN_ROT);
+    assert_eq!(b.thread(0).texasr, texasr::ROT | 1);
+}
+
+/// A failure after ROT went off records it off, and one before records it on.
+#[test]
+fn a_failure_records_rot_as_it_is() {
+    let mut b = Bench::fresh();
+    b.done(TBEGIN_ROT).done(TBEGIN).gives(TABORT, 20);
+    assert_eq!(b.thread(0).texasr, 0x0000_0001_1C00_0002);
+    let mut b = Bench::fresh();
+    b.done(TBEGIN_ROT).done(TBEGIN_ROT).gives(TABORT, 20);
+    assert_eq!(b.thread(0).texasr, 0x0000_0001_1E00_0002);
 }
 
 #[test]
@@ -56,7 +106,7 @@ fn tend_commits() {
         b.m.threads[0].live.gpr[2] = 22;
         b.m.threads[0].texasr |= 0xA5 << 56;
         if a {
-            b.done(TBEGIN).done(TBEGIN);
+            b.done(TBEGIN_ROT).done(TBEGIN_ROT);
         }
         b.done(std(1, 7)).done(std(2, 300)).done(ld(3, 500));
         assert_eq!((b.mem[7], b.mem[300]), (0, 0));

@@ -151,7 +151,12 @@ fn tbegin(t: &mut Plain, r: bool, cia: u64) -> u8 {
             t.lower.rot = r;
         }
         State::T if t.lower.tl == 15 => return own_failure(t, 0x0040_0000, cia),
-        State::T => t.lower.tl += 1,
+        State::T => {
+            t.lower.tl += 1;
+            if !r {
+                t.lower.rot = false;
+            }
+        }
         State::S => {}
     }
     0

@@ -53,8 +53,12 @@ impl Seen {
         match s.e {
             Event::Ld { index, .. } => self.access(s, "ld", index),
             Event::Std { index, .. } => self.access(s, "std", index),
-            Event::Tbegin { .. } if done_in_t => {
+            Event::Tbegin { r } if done_in_t => {
                 self.note(format!("nested to {}", after.level()));
+                self.note(format!("nested, rot {}, R {r}", t.rot()));
+            }
+            Event::Tbegin { r } if number == 20 => {
+                self.note(format!("too deep, rot {}, R {r}", t.rot()));
             }
             Event::Tend { .. } if done_in_t => {
                 self.note(format!("tend to {:?}, rot {}", after.state, t.rot()));
@@ -140,7 +144,7 @@ const OTHER_ANSWERS: [(u8, &str, u8); 9] = [
     (13, "T", 20),
 ];
 
-const SPECIAL: [&str; 15] = [
+const SPECIAL: [&str; 20] = [
     "std overflow: lines false, places true",
     "std overflow: lines true, places true",
     "ld at 32: own line false, rot true",
@@ -152,6 +156,11 @@ const SPECIAL: [&str; 15] = [
     "std: 3 victims",
     "own failure and another's",
     "rot load fails another",
+    "nested, rot false, R false",
+    "nested, rot false, R true",
+    "nested, rot true, R false",
+    "nested, rot true, R true",
+    "too deep, rot true, R false",
     "tend to N, rot false",
     "tend to N, rot true",
     "tend to T, rot false",
