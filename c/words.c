@@ -37,7 +37,7 @@ static int fits(void) {
 }
 
 int main(void) {
-  char line[512];
+  char line[1024];
   int count = 0;
   while (fgets(line, sizeof line, stdin) != NULL) {
     if (strncmp(line, "0x", 2) != 0)

@@ -16,11 +16,12 @@ extern "C" {
 #endif
 
 /* Bytes that are enough for the words of any TEXASR and their ending 0. */
-#define NASZEPTAN_WORDS 256
+#define NASZEPTAN_WORDS 512
 
-/* The cause in words, or NULL where bits 8:31 are none or several. */
-static inline const char *naszeptan_cause_words(uint64_t texasr) {
-  switch (NASZEPTAN_TEXASR_CAUSE(texasr)) {
+/* One cause in words: bits 8:31, the lowest being bit 31; NULL where they are
+ * none, several, or one without a name. */
+static inline const char *naszeptan_one_cause(unsigned bits) {
+  switch (bits) {
   case 0x800000:
     return "disallowed instruction";
   case 0x400000:
@@ -44,6 +45,31 @@ static inline const char *naszeptan_cause_words(uint64_t texasr) {
   default:
     return NULL;
   }
+}
+
+/* The cause in words, or NULL where bits 8:31 are none or several. */
+static inline const char *naszeptan_cause_words(uint64_t texasr) {
+  return naszeptan_one_cause((unsigned)NASZEPTAN_TEXASR_CAUSE(texasr));
+}
+
+/* Bits 8:31 where they are not one cause: each that has a name, the highest
+ * first, and whether there are others. */
+static inline void naszeptan_several_causes(unsigned bits, char *text,
+                                            size_t bytes) {
+  unsigned bit = 0x800000, others = bits;
+  size_t used = 0;
+  for (; bit != 0; bit >>= 1) {
+    const char *cause = naszeptan_one_cause(bits & bit);
+    if (cause == NULL || used >= bytes)
+      continue;
+    others &= ~bit;
+    used += (size_t)snprintf(text + used, bytes - used, "%s%s",
+                             used == 0 ? "several causes: " : ", ", cause);
+  }
+  if (used < bytes)
+    snprintf(text + used, bytes - used, "%s (bits 8:31 are 0x%06X)",
+             used == 0 ? "no known cause" : (others != 0 ? ", others" : ""),
+             bits);
 }
 
 /* What Linux means by a failure code: its name in asm/tm.h, or NULL. A code's
@@ -83,10 +109,10 @@ static inline int naszeptan_failure_words(uint64_t texasr, char *text,
   unsigned code = (unsigned)NASZEPTAN_TEXASR_CODE(texasr);
   const char *name = naszeptan_linux_code(code);
   int lasts = NASZEPTAN_TEXASR_PERSISTENT(texasr) != 0;
-  char bits[64] = "no cause";
+  char bits[320] = "no cause";
   if (cause == NULL && NASZEPTAN_TEXASR_CAUSE(texasr) != 0)
-    snprintf(bits, sizeof bits, "no single cause (bits 8:31 are 0x%06X)",
-             (unsigned)NASZEPTAN_TEXASR_CAUSE(texasr));
+    naszeptan_several_causes((unsigned)NASZEPTAN_TEXASR_CAUSE(texasr), bits,
+                             sizeof bits);
   return snprintf(
       text, bytes,
       "%s, level %u, exact=%u, suspended=%u%s, PR=%u, ROT=%u, code 0x%02X"

@@ -111,6 +111,25 @@ const ROT_AND_LEVEL: u64 = 1 << (63 - 38) | 0xFFF;
 /// 16 by the Power ISA.
 const NAMED: u64 = 0xFFFF_8001_BE00_0FFF;
 
+impl Cause {
+    /// Of bits 8 to 31, the lowest being bit 31.
+    const fn of(bits: u32) -> Cause {
+        match bits {
+            0x0080_0000 => Cause::Disallowed,
+            0x0040_0000 => Cause::NestingOverflow,
+            0x0020_0000 => Cause::FootprintOverflow,
+            0x0010_0000 => Cause::SelfInducedConflict,
+            0x0008_0000 => Cause::NonTransactionalConflict,
+            0x0004_0000 => Cause::TransactionConflict,
+            0x0002_0000 => Cause::TranslationInvalidation,
+            0x0001_0000 => Cause::ImplementationSpecific,
+            0x0000_8000 => Cause::InstructionFetchConflict,
+            0x0000_0001 => Cause::Abort,
+            bits => Cause::Other(bits),
+        }
+    }
+}
+
 impl Texasr {
     /// Bit `n`, 0 to 63, where bit 0 is the highest.
     ///
@@ -134,19 +153,7 @@ impl Texasr {
 
     /// Bits 8 to 31: the cause, whatever FS says.
     pub const fn cause(self) -> Cause {
-        match (self.0 >> 32) as u32 & 0x00FF_FFFF {
-            0x0080_0000 => Cause::Disallowed,
-            0x0040_0000 => Cause::NestingOverflow,
-            0x0020_0000 => Cause::FootprintOverflow,
-            0x0010_0000 => Cause::SelfInducedConflict,
-            0x0008_0000 => Cause::NonTransactionalConflict,
-            0x0004_0000 => Cause::TransactionConflict,
-            0x0002_0000 => Cause::TranslationInvalidation,
-            0x0001_0000 => Cause::ImplementationSpecific,
-            0x0000_8000 => Cause::InstructionFetchConflict,
-            0x0000_0001 => Cause::Abort,
-            bits => Cause::Other(bits),
-        }
+        Cause::of((self.0 >> 32) as u32 & 0x00FF_FFFF)
     }
 
     /// Bit 32: recorded in Suspended state.
@@ -351,7 +358,25 @@ impl fmt::Display for Cause {
             Cause::InstructionFetchConflict => "instruction fetch conflict",
             Cause::Abort => "abort",
             Cause::Other(0) => "no cause",
-            Cause::Other(bits) => return write!(f, "no single cause (bits 8:31 are 0x{bits:06X})"),
+            Cause::Other(bits) => return several(*bits, f),
         })
     }
+}
+
+/// Bits 8 to 31 where they are not one cause: each that has a name, the highest
+/// first, and whether there are others.
+fn several(bits: u32, f: &mut fmt::Formatter<'_>) -> fmt::Result {
+    let single = (0..32).rev().map(|n| bits & 1 << n).filter(|bit| *bit != 0);
+    let causes: Vec<Cause> = single.map(Cause::of).collect();
+    let named = |cause: &&Cause| !matches!(cause, Cause::Other(_));
+    let words: Vec<String> = causes.iter().filter(named).map(Cause::to_string).collect();
+    if words.is_empty() {
+        f.write_str("no known cause")?;
+    } else {
+        write!(f, "several causes: {}", words.join(", "))?;
+        if words.len() < causes.len() {
+            f.write_str(", others")?;
+        }
+    }
+    write!(f, " (bits 8:31 are 0x{bits:06X})")
 }

@@ -102,7 +102,10 @@ fn patterns_that_no_recording_leaves() {
     );
     assert_eq!(
         Texasr(u64::MAX).to_string(),
-        "no single cause (bits 8:31 are 0xFFFFFF), level 4095, exact=1, suspended=1, HV=1, \
+        "several causes: disallowed instruction, nesting overflow, footprint overflow, \
+         self-induced conflict, non-transactional conflict, transaction conflict, \
+         translation invalidation, implementation-specific, instruction fetch conflict, abort, \
+         others (bits 8:31 are 0xFFFFFF), level 4095, exact=1, suspended=1, HV=1, \
          PR=1, ROT=1, code 0xFF (persistent), other bits 0x0000000041FFF000"
     );
 }

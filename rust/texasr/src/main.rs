@@ -1,6 +1,7 @@
 //! Tells a TEXASR value in words, the model's or hardware's: `texasr 0x0008000018000001`.
 //!
-//! Its status is 0, or 2 with one line on standard error.
+//! Its status is 0, or 2 with one line on standard error. A value that may be
+//! the upper half alone is told, and a line on standard error says so.
 
 use std::io::{self, Write};
 use std::process::ExitCode;
@@ -14,6 +15,9 @@ use texasr::Texasr;
 mod texasr;
 
 const NO_VALUE: &str = "a TEXASR value is 0x and 1 to 16 hexadecimal digits";
+
+const UPPER_HALF: &str = "this may be TEXASRU (SPR 131), the upper half alone; \
+    what is told is all 64 bits of TEXASR (SPR 130)";
 
 fn main() -> ExitCode {
     match told(std::env::args().skip(1)) {
@@ -30,7 +34,17 @@ fn told(mut words: impl Iterator<Item = String>) -> Result<(), String> {
         return Err(NO_VALUE.into());
     };
     let value = value(&word).ok_or_else(|| format!("{word:?}: {NO_VALUE}"))?;
-    writeln!(io::stdout(), "{value}").map_err(|e| format!("standard output: {e}"))
+    writeln!(io::stdout(), "{value}").map_err(|e| format!("standard output: {e}"))?;
+    if may_be_upper_half(value) {
+        eprintln!("naszeptan: texasr: {UPPER_HALF}");
+    }
+    Ok(())
+}
+
+/// A value of 32 bits that shows no failure: the upper half has the cause, and
+/// the bit that says that there is one, FS, stands in the lower.
+fn may_be_upper_half(value: Texasr) -> bool {
+    value.0 != 0 && value.0 >> 32 == 0 && !value.failed()
 }
 
 /// The value that a word tells.
@@ -56,6 +70,16 @@ mod tests {
             ("0x0", 0),
         ] {
             assert_eq!(value(word), Some(Texasr(bits)), "{word}");
+        }
+    }
+
+    #[test]
+    fn upper_halves() {
+        for bits in [1, 0x0008_0000, 0xA500_0001, 0xFFFF_FFFF ^ 0x0800_0000] {
+            assert!(may_be_upper_half(Texasr(bits)), "{bits:#x}");
+        }
+        for bits in [0, 0x0800_0000, 0x0008_0000_1800_0001, 0x1_0000_0000] {
+            assert!(!may_be_upper_half(Texasr(bits)), "{bits:#x}");
         }
     }
 
