@@ -91,6 +91,30 @@ fn a_wrong_field_is_shrunk_to_begin_and_end() {
     assert!(text.contains("checkpoint"), "{text}");
 }
 
+/// Writes one doubleword too many: the one after a plain store's.
+struct Spills;
+
+impl Side for Spills {
+    fn step(&self, m: &mut raw::Machine, memory: &mut [u64], e: raw::Event) -> u8 {
+        let answer = Archive.step(m, memory, e);
+        if e.kind == 13 && answer == 0 {
+            if let Some(next) = memory.get_mut(e.index as usize + 1) {
+                *next ^= 1;
+            }
+        }
+        answer
+    }
+}
+
+#[test]
+fn a_wrong_doubleword_is_shrunk_to_one_store_from_fresh() {
+    let (case, _) = shrunk(&Spills);
+    assert_eq!(case.start, Start::FRESH, "{case}");
+    assert_eq!(kinds(&case), [13], "{case}");
+    // Nothing of the record is needed but its kind.
+    assert_eq!(case.records[0][2..], [0; 14], "{case}");
+}
+
 /// TEXASR's bit 38.
 const ROT: u64 = 1 << (63 - 38);
 
@@ -119,30 +143,6 @@ fn rot_left_on_is_shrunk_to_two_begins() {
         "one nested tbegin. is enough\n{case}"
     );
     assert!(text.contains("TEXASR"), "{text}");
-}
-
-/// Writes one doubleword too many: the one after a plain store's.
-struct Spills;
-
-impl Side for Spills {
-    fn step(&self, m: &mut raw::Machine, memory: &mut [u64], e: raw::Event) -> u8 {
-        let answer = Archive.step(m, memory, e);
-        if e.kind == 13 && answer == 0 {
-            if let Some(next) = memory.get_mut(e.index as usize + 1) {
-                *next ^= 1;
-            }
-        }
-        answer
-    }
-}
-
-#[test]
-fn a_wrong_doubleword_is_shrunk_to_one_store_from_fresh() {
-    let (case, _) = shrunk(&Spills);
-    assert_eq!(case.start, Start::FRESH, "{case}");
-    assert_eq!(kinds(&case), [13], "{case}");
-    // Nothing of the record is needed but its kind.
-    assert_eq!(case.records[0][2..], [0; 14], "{case}");
 }
 
 /// Does one record too few when a run is stopped by 13.

@@ -21,8 +21,7 @@ impl Thread {
         self.cr0 = self.ts() << 1;
     }
 
-    /// Event 1. Nested, R = 0 turns ROT off until the outer end, and R = 1
-    /// leaves it; at the highest level neither is looked at.
+    /// Event 1.
     pub(super) fn tbegin(&mut self, r: bool) -> u8 {
         self.cr0_from_state();
         match self.state {
@@ -34,6 +33,7 @@ impl Thread {
             }
             State::T if self.level() == MAX_LEVEL => return self.fail_in_t(cause::NESTING),
             State::T => {
+                // R = 0 turns ROT off until the outer end; R = 1 leaves it.
                 let kept = if r { !0 } else { !texasr::ROT };
                 self.texasr = (self.texasr & kept).wrapping_add(1);
             }
