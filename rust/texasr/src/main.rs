@@ -17,7 +17,7 @@ mod texasr;
 const NO_VALUE: &str = "a TEXASR value is 0x and 1 to 16 hexadecimal digits";
 
 const UPPER_HALF: &str = "this may be TEXASRU (SPR 131), the upper half alone; \
-    what is told is all 64 bits of TEXASR (SPR 130)";
+    all 64 bits of TEXASR (SPR 130) are wanted";
 
 fn main() -> ExitCode {
     match told(std::env::args().skip(1)) {
