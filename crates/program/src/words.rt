@@ -3,6 +3,7 @@ use crate::told::Told;
 use base::answer;
 use event::Event;
 use libc::STDERR_FILENO;
+use tape::FIRST_BYTE;
 use tape::RECORD_SIZE;
 use tape::Read;
 use text::LONGEST;
@@ -118,13 +119,21 @@ fn event(e: Event) {
     }
 }
 
-// What stands in the record's first two bytes, where the reader refused it.
+fn byte(word: &[u8], n: u8) {
+    say(word);
+    io::print_hex(STDERR_FILENO, n as u64, 2);
+}
+
+// What stands in the record's first two bytes, where the reader refused it, and what may stand there.
 fn malformed(n: u8, first: u8, kind: u8) {
     if n == answer::BAD_FIRST_BYTE {
-        say(b"0x");
-        io::print_hex(STDERR_FILENO, first as u64, 2);
-    } else {
-        with(b"kind ", kind as u64);
+        byte(b"0x", first);
+        byte(b", not 0x", FIRST_BYTE);
+        return;
+    }
+    with(b"kind ", kind as u64);
+    if n == answer::NO_KIND {
+        say(b", not 1 to 17");
     }
 }
 
