@@ -235,7 +235,7 @@ static void failed_itself(void) {
   begun();
   spares(tsuspend);
   fails(treclaim, NASZEPTAN_DONE, 1);
-  /* Of a doomed one it is not, for that was told before. */
+  /* Of a doomed one it is not: it records nothing. */
   begun();
   spares(tsuspend);
   fails(tabort, NASZEPTAN_RECORDED, 1);

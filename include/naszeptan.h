@@ -261,8 +261,8 @@ struct naszeptan_event {
  *
  * So failed tells of other threads too, of which the answer says nothing: a
  * store may answer 0 and have failed three. A failure recorded in S is told
- * then, and once more when tresume handles it. treclaim. of a live transaction
- * is told; of a doomed one it is not, since that was told when it failed. */
+ * then, and every tresume that handles is told. treclaim. of a live
+ * transaction is told; of a doomed one it is not, since it records nothing. */
 struct naszeptan_done {
   uint8_t answer;
   uint8_t failed;
@@ -299,7 +299,7 @@ uint8_t naszeptan_valid(struct naszeptan_machine machine, size_t len);
 
 /* One event. Refused by 1, 2, 8, 9, 3, 4, 5, 11, 12, 13: the first that
  * applies in this order. What is given back also tells which threads failed,
- * this one or others: see struct naszeptan_done. A run does not tell it. */
+ * the event's own or others: see struct naszeptan_done. A run does not tell it. */
 struct naszeptan_done naszeptan_step(struct naszeptan_machine machine,
                                      uint64_t *memory, size_t len,
                                      struct naszeptan_event event);

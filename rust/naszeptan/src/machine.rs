@@ -151,8 +151,9 @@ impl Machine {
     /// event and is not after it, unless it is the thread's own commit.
     ///
     /// A failure recorded in Suspended state is so told twice, when it is
-    /// recorded and when tresume handles it. treclaim. of a live transaction is
-    /// told, and of a doomed one not.
+    /// recorded and when tresume handles it; a tresume after trechkpt. that
+    /// handles is told too. treclaim. of a live transaction is told, and of a
+    /// doomed one not.
     ///
     /// ```
     /// use naszeptan::{Answer, Event, Machine};
