@@ -47,7 +47,7 @@ pub extern "C" fn naszeptan_valid(m: RawMachine, len: usize) -> u8
     answer::SIZE
 }
 
-// The first of two refusals: k where there is one.
+// The first of two numbers that is not 0, else 0.
 fn first_of(k: u8, n: u8) -> u8
     ensures { λ r. ⌜ r ≡ first-of k n ⌝ }
 {

@@ -3,7 +3,7 @@ ghost use mathlib.Core.Path.{_≡_};
 ghost use Prim.Native.Nat.{_-_, _<_};
 ghost use Rattle.base.specs.Limits.{lines};
 ghost use Rattle.lines.specs.Inner.{same, ends, clear-from, joined, shared, alike};
-ghost use Rattle.lines.specs.Lines.{empty, has, with, meets, footprint};
+ghost use Rattle.lines.specs.Lines.{empty, with, meets, footprint};
 use base::WORDS;
 
 #[repr(C)]
@@ -15,16 +15,6 @@ pub fn empty() -> LineSet
     ensures { λ r. ⌜ r ≡ empty ⌝ }
 {
     LineSet { words: [0; WORDS] }
-}
-
-// The set holds the line.
-pub fn has(s: LineSet, line: usize) -> bool
-    requires { ⌜ line < lines ⌝ }
-    ensures { λ r. ⌜ r ≡ has s line ⌝ }
-{
-    let k = line / 64;
-    let w = s.words[k];
-    (w >> (line % 64)) % 2 == 1
 }
 
 // The set with one line more.

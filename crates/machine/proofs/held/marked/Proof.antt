@@ -1,4 +1,4 @@
--- `machine::held::marked` meets its contract, as `lines::has` and `lines::with` meet theirs.
+-- `machine::held::marked` meets its contract: the word is the doubleword's, and the shift is the place in it.
 use mathlib.Core.Path.{ap, _∙_}
 use Prim.Native.Nat.{ℕ, _/_, _%_}
 use native.Mathlib.Nat.{one-mul}
