@@ -132,22 +132,7 @@ fn marked(ws: &mut [u64; SEEN], d: usize) -> bool
     (w >> (d % 64)) % 2 == 1
 }
 
-// Whether a place before n has the index of place n. Indices past the largest memory are compared one by one: no valid log has one.
-fn again(ws: &mut [u64; SEEN], x: Transaction, n: usize) -> bool
-    requires { ⌜ n < most-places ⌝ }
-    requires { ⌜ Seen (now ws) (x .log) n ⌝ }
-    ensures { λ r. ⌜ r ≡ not (unlike x n) ⌝ }
-    ensures { λ _. ⌜ Seen (now (ws .exit)) (x .log) (n + 1) ⌝ }
-{
-    let e = x.log[n];
-    let d = e.index as usize;
-    if d < MEMORY {
-        return marked(&mut *ws, d);
-    }
-    !unlike(x, n)
-}
-
-// Log indices are distinct.
+// Log indices are distinct. Indices past the largest memory are compared one by one: no valid log has one.
 fn distinct(x: Transaction) -> bool
     requires { ⌜ x .count ≤ most-places ⌝ }
     ensures { λ r. ⌜ r ≡ distinct x ⌝ }
@@ -155,8 +140,16 @@ fn distinct(x: Transaction) -> bool
     let mut ws = [0; SEEN];
     let n = x.count;
     for i in 0..n {
-        if again(&mut ws, x, i) {
-            return false;
+        let e = x.log[i];
+        let d = e.index as usize;
+        if d < MEMORY {
+            if marked(&mut ws, d) {
+                return false;
+            }
+        } else {
+            if !unlike(x, i) {
+                return false;
+            }
         }
     }
     true

@@ -4,7 +4,7 @@ ghost use mathlib.Core.Bool.{cond, _||_};
 ghost use Prim.Native.Nat.{_<_};
 ghost use Rattle.base.specs.Limits.{most-threads};
 ghost use Rattle.lines.specs.Lines.{meets};
-ghost use Rattle.machine.specs.Valid.{memory-sized, sized, aligned, cr-small, fields-small, live-rules, state-rules, thread-valid, clear-of, apart, thread-right, threads-right, zero-thread, valid, machine-number};
+ghost use Rattle.machine.specs.Valid.{memory-sized, sized, aligned, cr-small, fields-small, live-rules, state-rules, thread-valid, apart, thread-right, threads-right, zero-thread, valid, machine-number};
 use crate::Machine;
 use crate::held;
 use crate::zeros;
@@ -168,39 +168,48 @@ fn clash(a: LineSet, r: LineSet, w: LineSet) -> bool
     lines::meets(a, w)
 }
 
-// No other thread's sets have a line of thread v's write set.
-fn clear_of(m: Machine, v: usize) -> bool
-    requires { ⌜ v < most-threads ⌝ }
-    ensures { λ r. ⌜ r ≡ clear-of m v ⌝ }
+// Two threads, with what each has read and written: one's written lines meet the other's.
+fn clash_either(r: LineSet, w: LineSet, s: LineSet, x: LineSet) -> bool
+    ensures { λ b. ⌜ b ≡ ((meets w s || meets w x) || (meets x r || meets x w)) ⌝ }
 {
-    let t = m.threads[v];
-    let a = t.transaction.writes;
-    let mut u = THREADS;
-    while 0 < u {
-        u -= 1;
-        if v != u {
-            let o = m.threads[u];
-            let r = o.transaction.reads;
-            let w = o.transaction.writes;
-            if clash(a, r, w) {
-                return false;
-            }
-        }
+    if clash(w, s, x) {
+        return true;
     }
-    true
+    clash(x, r, w)
 }
 
+// No two threads clash. The sets are taken out once, by known indices: one that is not known would copy all records to take one.
 fn apart(m: Machine) -> bool
     ensures { λ r. ⌜ r ≡ apart m ⌝ }
 {
-    let mut v = THREADS;
-    while 0 < v {
-        v -= 1;
-        if !clear_of(m, v) {
-            return false;
-        }
+    let a = m.threads[0];
+    let ar = a.transaction.reads;
+    let aw = a.transaction.writes;
+    let b = m.threads[1];
+    let br = b.transaction.reads;
+    let bw = b.transaction.writes;
+    let c = m.threads[2];
+    let cr = c.transaction.reads;
+    let cw = c.transaction.writes;
+    let d = m.threads[3];
+    let dr = d.transaction.reads;
+    let dw = d.transaction.writes;
+    if clash_either(ar, aw, br, bw) {
+        return false;
     }
-    true
+    if clash_either(ar, aw, cr, cw) {
+        return false;
+    }
+    if clash_either(ar, aw, dr, dw) {
+        return false;
+    }
+    if clash_either(br, bw, cr, cw) {
+        return false;
+    }
+    if clash_either(br, bw, dr, dw) {
+        return false;
+    }
+    !clash_either(cr, cw, dr, dw)
 }
 
 // A thread record is valid, or past the count and zero.
