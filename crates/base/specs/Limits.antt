@@ -23,7 +23,7 @@ abbrev pub most-places : ℕ
 most-places = 64
 
 abbrev pub most-levels : ℕ
-most-levels = 15
+most-levels = 4095
 
 abbrev pub most-threads : ℕ
 most-threads = 4

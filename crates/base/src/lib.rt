@@ -22,8 +22,8 @@ pub const FOOTPRINT: u32 = 32;
 
 pub const PLACES: usize = 64;
 
-// The deepest nesting.
-pub const LEVELS: u64 = 15;
+// The deepest nesting: the most that the 12 bits of TL hold.
+pub const LEVELS: u64 = 4095;
 
 // General registers, and the CR fields that a checkpoint has: 1 to 7.
 pub const GPRS: usize = 32;

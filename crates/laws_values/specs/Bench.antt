@@ -4,7 +4,9 @@ use mathlib.Core.Bool.{Bool, true, false, _&&_}
 use mathlib.Core.List.{List, [], _∷_, _++_}
 use lib.Dec.{eqb}
 use lib.ListN.{set, replicate}
-use Rattle.thread.specs.Thread.{with-control, with-nia}
+use Rattle.base.specs.Limits.{most-levels}
+use Rattle.thread.specs.Thread.{with-control, with-nia, with-texasr, in-state}
+use Rattle.thread.specs.declared.State.the-variants.{T}
 use Rattle.thread.specs.declared.Thread.{Thread}
 use Rattle.event.specs.declared.Event.{Event}
 use Rattle.event.specs.declared.Event.the-variants.{Tbegin, Tabort, Tabortwc, Tabortdc, Tsr, Ld, Std, Addi, Disallowed, Host}
@@ -73,6 +75,15 @@ loads (suc n) = from 0 (Ld 0 (n * 16)) ∷ loads n
 abbrev pub begins : ℕ → List Fed
 begins n = replicate n (from 0 (Tbegin false))
 
+-- thread 0 of a fresh machine in a transaction of n levels. tapes/longest.tape reaches each of them by tbegin. alone, from level 1 to the
+-- highest, and fails past it; so many steps are not computed here.
+abbrev pub deep : ℕ → Thread → Thread
+deep n t = with-control t (with-texasr (in-state (t .control) T false) n)
+
+abbrev pub nested-case : ℕ → List ℕ → ℕ → Case
+nested-case n answers after =
+    record { start = with-threads fresh (set (fresh .threads) 0 (deep n (thread (fresh .threads) 0))); memory = fresh-memory; events = begins 1; answers = answers; expects = texasr 0 after ∷ [] }
+
 -- 0xFFFFFFFF in doubleword 5
 abbrev pub all-ones : List ℕ
 all-ones = set fresh-memory 5 0xFFFFFFFF
@@ -114,15 +125,15 @@ abbrev pub k6-done : Case
 k6-done =
     case 0x1000 (supervisor ∷ from 0 (Tbegin false) ∷ loads 32) (replicate 34 0) (texasr 0 0x00000001 ∷ [])
 
--- at TL 15
+-- at the highest TL
 abbrev pub k7 : Case
 k7 =
-    case 0x1000 (begins 16) (replicate 15 0 ++ 20 ∷ []) (texasr 0 0x004000001C00000F ∷ [])
+    nested-case most-levels (20 ∷ []) 0x004000001C000FFF
 
--- at TL 14
+-- one below it
 abbrev pub k7-done : Case
 k7-done =
-    case 0x1000 (begins 15) (replicate 15 0) (texasr 0 0x0000000F ∷ [])
+    nested-case (most-levels - 1) (0 ∷ []) 0x00000FFF
 
 abbrev pub k8 : Case
 k8 =
