@@ -88,7 +88,10 @@ const CELLS: [[Cell; 5]; KINDS.len()] = [
     [
         OUTSIDE,
         OUTSIDE,
-        (&[0, 20], "TL 15 fails, and in T is handled at once"),
+        (
+            &[0, 20],
+            "the highest TL fails, and in T is handled at once",
+        ),
         (&[0], "in S only CR0 changes"),
         (&[0], "in S only CR0 changes"),
     ],

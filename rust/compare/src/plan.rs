@@ -4,7 +4,7 @@
 use std::collections::VecDeque;
 
 use model::gen::{self, Rng};
-use model::machine::{LINE, LOG, MAX_FOOTPRINT};
+use model::machine::{LINE, LOG, MAX_FOOTPRINT, MAX_LEVEL};
 use model::{Event, Machine, State, Thread};
 use naszeptan::raw;
 
@@ -48,9 +48,20 @@ fn mended(rng: &mut Rng, m: &Machine, len: usize, (thread, e): (u8, Event)) -> E
         State::N | State::S if !t.tm && rng.one_in(3) => Event::Host { pr: rng.flag(), tm },
         State::N if rng.one_in(4) => Event::Tbegin { r: rng.one_in(4) },
         State::S if t.doomed && rng.one_in(4) => Event::Tsr { l: true },
+        State::T if is_deep(t) && rng.one_in(4) => Event::Tbegin { r: rng.flag() },
         State::T if is_full(t) && rng.flag() => pressed(rng, m, len),
         _ => e,
     }
+}
+
+/// The levels that a transaction has left (rule E1), in T.
+fn levels_left(t: &Thread) -> u64 {
+    MAX_LEVEL.saturating_sub(t.level())
+}
+
+/// Whether its next tbegin. overflows, or the one after that.
+fn is_deep(t: &Thread) -> bool {
+    levels_left(t) <= 1
 }
 
 /// Whether the footprint or the log takes no more.
@@ -130,7 +141,7 @@ fn scene(rng: &mut Rng, m: &Machine, len: usize) -> Vec<(u8, Event)> {
     match rng.below(8) {
         0 => full_log(&stage, begin),
         1 => full_footprint(rng, &stage, begin),
-        2 => alone(me, (0..16).map(|_| begin)),
+        2 => too_deep(m, me, begin),
         3 => nested(rng, me, begin),
         4 => doomed(rng, &stage, begin),
         5 => reclaimed(rng, &stage, begin),
@@ -189,6 +200,21 @@ fn rot_off(rng: &mut Rng, stage: &Stage) -> Vec<(u8, Event)> {
         scene.push((stage.other, Event::Std { ra: 3, index }));
     }
     scene
+}
+
+/// One tbegin. more than the deepest transaction has levels left. Where it has
+/// many left, or none is in T, this thread goes some levels down.
+fn too_deep(m: &Machine, me: usize, begin: Event) -> Vec<(u8, Event)> {
+    const MANY: u64 = 8;
+    let threads = m.threads.iter().take(m.count).enumerate();
+    let deepest = threads
+        .filter(|(_, t)| t.state == State::T)
+        .map(|(n, t)| (levels_left(t), n))
+        .min();
+    let (left, who) = deepest
+        .filter(|&(left, _)| left <= MANY)
+        .unwrap_or((MANY, me));
+    alone(who, (0..=left).map(|_| begin))
 }
 
 /// Some levels down and up again, with a store at the bottom.

@@ -25,13 +25,13 @@ pub const SIGHTS: usize = 64;
 /// All of them.
 #[rustfmt::skip]
 pub const ALL: [Sight; SIGHTS] = [
-    (1, "tbegin. at TL 15 overflows", |v| v.state(State::T) && v.thread.level() == MAX_LEVEL),
-    (1, "tbegin. at TL 14 is done", |v| v.state(State::T) && v.thread.level() == MAX_LEVEL - 1),
+    (1, "tbegin. at the highest TL overflows", |v| v.state(State::T) && v.thread.level() == MAX_LEVEL),
+    (1, "tbegin. one below the highest TL is done", |v| v.state(State::T) && v.thread.level() == MAX_LEVEL - 1),
     (1, "tbegin. starts a ROT", |v| v.state(State::N) && v.flag()),
     (1, "tbegin. R = 0 turns ROT off", |v| v.nested() && v.thread.rot() && !v.flag()),
     (1, "tbegin. R = 1 leaves ROT on", |v| v.nested() && v.thread.rot() && v.flag()),
     (1, "tbegin. R = 1 leaves ROT off", |v| v.nested() && !v.thread.rot() && v.flag()),
-    (1, "tbegin. R = 0 at TL 15 leaves ROT on", |v| v.state(State::T) && !v.nested() && v.thread.rot() && !v.flag()),
+    (1, "tbegin. R = 0 at the highest TL leaves ROT on", |v| v.state(State::T) && !v.nested() && v.thread.rot() && !v.flag()),
     (1, "tbegin. R = 0 in S leaves ROT on", |v| v.state(State::S) && v.thread.rot() && !v.flag()),
     (1, "tbegin. at 2^64 - 4", |v| v.state(State::N) && v.thread.nia == !3),
     (2, "tend. commits a full log", |v| v.commits() && v.thread.count == LOG),

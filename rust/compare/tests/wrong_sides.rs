@@ -7,6 +7,7 @@ use compare::counts::{Counts, ALL_MET_FROM};
 use compare::shrink::Case;
 use compare::sides::{Archive, Side};
 use compare::start::{Kind, Start};
+use model::machine::{texasr, MAX_LEVEL};
 use model::Done;
 use naszeptan::raw;
 
@@ -186,6 +187,30 @@ fn rot_left_on_is_shrunk_to_two_begins() {
         "one nested tbegin. is enough\n{case}"
     );
     assert!(text.contains("TEXASR"), "{text}");
+}
+
+/// Has one level less: a tbegin. overflows at the last level but one.
+struct Shallow;
+
+impl Side for Shallow {
+    fn step(&self, m: &mut raw::Machine, memory: &mut [u64], e: raw::Event) -> Done {
+        if let Some(t) = m.threads.get_mut(usize::from(e.thread)) {
+            let last_but_one = t.control.texasr & texasr::TL == MAX_LEVEL - 1;
+            if e.kind == 1 && t.control.state == 1 && last_but_one {
+                t.control.texasr += 1;
+            }
+        }
+        Archive.step(m, memory, e)
+    }
+}
+
+/// No tape climbs that far: a start is at the level, or near it.
+#[test]
+fn one_level_less_is_shrunk_to_few_records() {
+    let (case, _) = shrunk(&Shallow);
+    assert_eq!(kinds(&case).last(), Some(&1), "{case}");
+    assert!(case.records.len() <= 8, "{case}");
+    assert_ne!(case.start, Start::FRESH, "{case}");
 }
 
 /// Writes one doubleword too many: the one after a plain store's.

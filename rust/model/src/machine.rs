@@ -10,8 +10,9 @@ pub const THREADS: usize = 4;
 pub const LOG: usize = 64;
 /// The most lines in a live transaction's footprint.
 pub const MAX_FOOTPRINT: u32 = 32;
-/// The deepest nesting.
-pub const MAX_LEVEL: u64 = 15;
+/// The highest level of a transaction (rules V9 and E1): TL has 12 bits and
+/// holds no more.
+pub const MAX_LEVEL: u64 = 4095;
 
 /// Fields of TEXASR; bit 0 is the top one.
 pub mod texasr {

@@ -28,7 +28,8 @@ use crate::{raw, Answer, Kind};
 #[derive(Clone, Copy, Debug, PartialEq, Eq, Hash)]
 pub enum Event {
     /// 1: begins a transaction, or nests one. With `r` a new one is
-    /// rollback-only; a nested one without `r` ends that.
+    /// rollback-only; a nested one without `r` ends that. At level
+    /// [`LEVELS`](crate::LEVELS), 4,095, it fails the transaction.
     Tbegin {
         /// R.
         r: bool,

@@ -95,7 +95,7 @@ pub use kind::{Kind, Operand, KINDS};
 pub use machine::{Control, Done, Ended, Machine, State, Thread};
 #[doc(inline)]
 pub use raw::{version, Entry, Lines as LineSet, Registers, Transaction};
-pub use raw::{FIRST_BYTE, GPRS, LINE, MEMORY, PLACES, RECORD_SIZE, THREADS, VERSION};
+pub use raw::{FIRST_BYTE, GPRS, LEVELS, LINE, MEMORY, PLACES, RECORD_SIZE, THREADS, VERSION};
 pub use raw::{SPR_TEXASR, SPR_TEXASRU, SPR_TFHAR, SPR_TFIAR};
 pub use tape::{Records, Tape};
 pub use texasr::{Cause, Failure, Texasr};

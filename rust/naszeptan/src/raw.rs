@@ -38,6 +38,8 @@ pub const LINE: usize = 16;
 pub const MEMORY: usize = 4096;
 /// Places of a transaction's log.
 pub const PLACES: usize = 64;
+/// The highest level of a transaction, and the most that TEXASR's TL holds.
+pub const LEVELS: u16 = 4095;
 /// Bytes of a tape record.
 pub const RECORD_SIZE: usize = 16;
 /// The first byte of each record.

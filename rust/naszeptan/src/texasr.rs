@@ -36,7 +36,7 @@ pub struct Texasr(
 pub enum Cause {
     /// Bit 8: a disallowed instruction.
     Disallowed,
-    /// Bit 9: a tbegin. at the highest level.
+    /// Bit 9: a tbegin. at the highest level, [`LEVELS`](crate::LEVELS).
     NestingOverflow,
     /// Bit 10: too many lines, or too many logged stores.
     FootprintOverflow,

@@ -1,6 +1,6 @@
 //! The bench values of docs/RULES.md, K1 to K10, through the archive.
 
-use naszeptan::{Answer, Event, Machine, State, LINE, MEMORY};
+use naszeptan::{Answer, Event, Machine, State, LEVELS, LINE, MEMORY};
 
 const BEGIN: Event = Event::Tbegin { r: false };
 const ADDI: Event = Event::Addi {
@@ -116,12 +116,12 @@ fn k6_footprint() {
 #[test]
 fn k7_nesting() {
     let mut desk = Desk::new();
-    for _ in 0..15 {
-        desk.step(0, BEGIN, Answer::Done);
-    }
-    assert_eq!(desk.texasr(), 15);
+    desk.step(0, BEGIN, Answer::Done);
+    desk.machine.threads[0].control.texasr.0 = u64::from(LEVELS - 1);
+    desk.step(0, BEGIN, Answer::Done);
+    assert_eq!(desk.texasr(), 0xFFF);
     desk.step(0, BEGIN, Answer::Handled);
-    assert_eq!(desk.texasr(), 0x0040_0000_1C00_000F);
+    assert_eq!(desk.texasr(), 0x0040_0000_1C00_0FFF);
 }
 
 #[test]

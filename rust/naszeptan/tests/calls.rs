@@ -3,7 +3,7 @@
 
 use std::collections::HashSet;
 
-use naszeptan::{raw, Answer, Ended, Event, Machine, State, Tape, Texasr, MEMORY, VERSION};
+use naszeptan::{raw, Answer, Ended, Event, Machine, State, Tape, Texasr, LEVELS, MEMORY, VERSION};
 use naszeptan::{SPR_TEXASR, SPR_TEXASRU, SPR_TFHAR, SPR_TFIAR};
 
 /// Steps a clone, which must be left as it was.
@@ -237,6 +237,20 @@ fn a_machine_set_by_hand() {
     assert_eq!(thread.control.texasr, Texasr(0));
     assert_eq!(thread.transaction, Default::default());
     assert_eq!(thread.cr(0), 0b0100);
+}
+
+/// A live transaction has some level, and any but 0 (docs/RULES.md, V9).
+#[test]
+fn levels() {
+    let (mut machine, memory) = begun();
+    for level in 0..=LEVELS {
+        machine.threads[0].control.texasr = Texasr(level.into());
+        let right = match level {
+            0 => Err(Answer::NoMachine),
+            _ => Ok(()),
+        };
+        assert_eq!(machine.valid(memory.len()), right, "{level}");
+    }
 }
 
 #[test]

@@ -1,9 +1,10 @@
-//! The stored tapes, stepped and run, give what the text beside them says.
+//! The stored tapes, stepped and run, give what the text beside them says; and
+//! one more, that climbs all levels.
 
 use std::fs;
 use std::path::{Path, PathBuf};
 
-use naszeptan::{Answer, Ended, Machine, Tape, MEMORY};
+use naszeptan::{Answer, Ended, Event, Machine, Tape, LEVELS, MEMORY};
 
 /// The program's limit (docs/RULES.md, P2). A run has none.
 const LONGEST: usize = 65_536;
@@ -77,6 +78,22 @@ fn hold(name: &str) {
             assert_eq!(given[given.len() - tail.len()..], *tail);
         }
     }
+}
+
+/// The highest level is reached by events: the longest tape of the program
+/// climbs to it and overflows at its last record.
+#[test]
+fn all_levels() {
+    let mut tape = Tape::new();
+    for _ in 0..=LEVELS {
+        tape.push(0, Event::Tbegin { r: false });
+    }
+    assert_eq!(tape.as_bytes().len(), LONGEST);
+    let climb = (0..LEVELS).map(|n| format!("{n} 0"));
+    let expected: Vec<String> = climb
+        .chain(["4095 20", "end 4096"].map(String::from))
+        .collect();
+    assert_eq!(written(&tape), expected);
 }
 
 #[test]

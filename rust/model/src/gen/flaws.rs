@@ -1,6 +1,6 @@
 //! Machines that are not valid, or of a wrong shape, and the ways to be so.
 
-use super::machines::{line, valid_machine};
+use super::machines::{level, line, valid_machine};
 use super::rng::{value, Rng};
 use crate::machine::{texasr, Entry, Machine, State, Thread, LINE, THREADS};
 
@@ -32,7 +32,8 @@ pub enum Flaw {
     LogNotLive,
     /// FS = 1 in a live transaction.
     FailedLive,
-    /// A level not 1 to 15 in a live transaction.
+    /// Level 0 in a live transaction. TL can say every other level, and each
+    /// is one that a transaction may have.
     LevelLive,
     /// More than 32 lines in a live transaction.
     FootprintLive,
@@ -121,6 +122,7 @@ fn shake(rng: &mut Rng, m: &mut Machine, len: usize) {
     let index = rng.below(len + 2) as u32;
     let word = value(rng);
     let tidy = rng.flag();
+    let level = if tidy { level(rng) } else { 0 };
     let address = if tidy { word & !3 } else { word };
     let t = &mut m.threads[rng.below(THREADS)];
     match rng.below(16) {
@@ -134,7 +136,7 @@ fn shake(rng: &mut Rng, m: &mut Machine, len: usize) {
         7 => t.state = rng.pick([State::N, State::T, State::S]),
         8 => t.doomed = !t.doomed,
         9 => t.texasr = word,
-        10 => t.texasr = t.texasr & !texasr::TL | rng.below(18) as u64,
+        10 => t.texasr = t.texasr & !texasr::TL | level,
         11 => t.texasr ^= texasr::FS,
         12 => t.reads.insert(l),
         13 => t.writes.insert(l),

@@ -2,7 +2,7 @@
 
 use super::rng::{value, Rng};
 use crate::machine::{
-    texasr, Entry, LineSet, Machine, Registers, State, Thread, LINE, LOG, MAX_FOOTPRINT,
+    texasr, Entry, LineSet, Machine, Registers, State, Thread, LINE, LOG, MAX_FOOTPRINT, MAX_LEVEL,
     MAX_MEMORY, THREADS,
 };
 
@@ -145,10 +145,22 @@ fn put_state(rng: &mut Rng, t: &mut Thread, len: usize, held: &LineSet, written:
     }
 }
 
+/// The level of a live transaction: often the highest or near it, where a
+/// tbegin. overflows or just does not (rule E1), and often 1 or 2, where a
+/// tend. commits or just does not (rule E2). Else one from which a tbegin.
+/// carries up to the next power of two, or any.
+pub(super) fn level(rng: &mut Rng) -> u64 {
+    let near = MAX_LEVEL - 2 - rng.below(4) as u64;
+    let carries = MAX_LEVEL >> rng.below(12);
+    let any = 1 + rng.below(MAX_LEVEL as usize) as u64;
+    let some = rng.pick([carries, any]);
+    let top = MAX_LEVEL;
+    rng.pick([1, 1, 1, 1, 2, top, top, top - 1, near, some])
+}
+
 /// The TEXASR of a live transaction, its other bits from `any`.
 fn live_texasr(rng: &mut Rng, any: u64) -> u64 {
-    let some = 1 + rng.below(15) as u64;
-    let level = rng.pick([1, 1, 1, 2, 14, 15, some]);
+    let level = level(rng);
     let rot = rng.pick([0, 0, texasr::ROT]);
     any & !(texasr::FS | texasr::ROT | texasr::TL) | rot | level
 }

@@ -35,7 +35,7 @@ impl Flaw {
             Flaw::WritesNotLive => return log_not_live(t, at.free, true),
             Flaw::LogNotLive => return log_not_live(t, at.free, false),
             Flaw::FailedLive => return failed_live(t),
-            Flaw::LevelLive => return level_live(rng, t),
+            Flaw::LevelLive => return level_live(t),
             Flaw::FootprintLive => return footprint_live(t, &at, len / LINE),
             Flaw::DoomedNotFailed => return doomed_not_failed(t),
             Flaw::IndexOutside => return index_outside(rng, t, len),
@@ -155,12 +155,11 @@ fn failed_live(t: &mut Thread) -> bool {
     true
 }
 
-fn level_live(rng: &mut Rng, t: &mut Thread) -> bool {
+fn level_live(t: &mut Thread) -> bool {
     if !t.is_live() {
         return false;
     }
-    let level = rng.pick([0, 0, 16, 17, 255, 256, 0x801, 0xFFF]);
-    t.texasr = t.texasr & !texasr::TL | level;
+    t.texasr &= !texasr::TL;
     true
 }
 

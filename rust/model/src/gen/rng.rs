@@ -1,6 +1,6 @@
 //! The generator, and values drawn from it.
 
-use crate::machine::texasr;
+use crate::machine::{texasr, MAX_LEVEL};
 
 /// A xorshift generator: the same seed gives the same numbers.
 #[derive(Clone, Debug)]
@@ -69,7 +69,7 @@ pub fn value(rng: &mut Rng) -> u64 {
             0xFFFF_FFFF_FFFF_FFFC,
             u64::MAX,
             texasr::FS,
-            texasr::FS | texasr::ROT | 15,
+            texasr::FS | texasr::ROT | MAX_LEVEL,
         ]),
     }
 }

@@ -51,10 +51,8 @@ fn its_own_failure_handled() {
 #[test]
 fn its_own_level_and_overflow() {
     let mut b = Bench::fresh();
-    for _ in 0..15 {
-        b.fails(1, TBEGIN, 0, 0);
-    }
-    b.fails(1, TBEGIN, 20, 0b0010);
+    b.fails(1, TBEGIN, 0, 0).at_level(1, MAX_LEVEL - 1);
+    b.fails(1, TBEGIN, 0, 0).fails(1, TBEGIN, 20, 0b0010);
     // An overflow fails its own thread alone, though another has the line.
     b.done_by(0, TBEGIN).done_by(0, std(1, 3200));
     b.done_by(3, TBEGIN);

@@ -4,7 +4,11 @@ use std::collections::{BTreeMap, BTreeSet};
 
 use super::*;
 use crate::gen::{self, Flaw};
-use crate::machine::{texasr, Entry, LineSet};
+use crate::machine::{Entry, LineSet};
+
+/// Rule V9: a live transaction has a level from one to four thousand and
+/// ninety-five.
+const LEVELS: std::ops::RangeInclusive<u64> = 1..=4_095;
 
 /// The definition of a valid machine clause by clause, without haste: a list
 /// of the clauses that do not hold.
@@ -67,7 +71,7 @@ impl Faults {
         }
         if live {
             self.clause(!fs, "FS in a live transaction");
-            self.clause((1..=15).contains(&tl), "level");
+            self.clause(LEVELS.contains(&tl), "level");
             self.clause(reads.union(&writes).count() <= 32, "footprint");
         }
         if doomed_s {
@@ -238,22 +242,43 @@ fn two_threads_may_read_a_line() {
 
 #[test]
 fn tl_counts_by_its_twelve_bits() {
-    for (level, fits) in [
-        (0, false),
-        (1, true),
-        (15, true),
-        (16, false),
-        (0x801, false),
-    ] {
-        let mut b = Bench::fresh();
-        b.done(TBEGIN);
-        b.m.threads[0].texasr = level;
-        assert_eq!(valid(&b.m, 4096), fits);
-        b.m.threads[0].texasr = level | 0xFFFF_FFFF_F7FF_F000;
-        assert_eq!(valid(&b.m, 4096), fits);
-        b.m.threads[0].texasr |= texasr::FS;
-        assert!(!valid(&b.m, 4096));
+    for level in 0..=0xFFF {
+        let fits = LEVELS.contains(&level);
+        let mut m = Bench::begun().m;
+        m.threads[0].texasr = level;
+        assert_eq!(valid(&m, 4096), fits, "{level}");
+        // No other bit counts, and so none makes up for a level of 0.
+        m.threads[0].texasr = level | 0xFFFF_FFFF_F7FF_F000;
+        assert_eq!(valid(&m, 4096), fits, "{level}");
+        m.threads[0].texasr |= texasr::FS;
+        assert!(!valid(&m, 4096), "{level}");
     }
+}
+
+/// How often each level is met in the live transactions of 5,000 machines.
+fn levels_met() -> BTreeMap<u64, usize> {
+    let machines = (0..5000).map(|seed| gen::valid_machine(&mut Rng::new(seed)).0);
+    let threads = machines.flat_map(|m| m.threads).filter(Thread::is_live);
+    threads.fold(BTreeMap::new(), |mut met, t| {
+        *met.entry(t.level()).or_default() += 1;
+        met
+    })
+}
+
+/// The ends and what is near them are met often, so is each length of carry,
+/// and so are many others.
+#[test]
+fn generated_levels() {
+    let met = levels_met();
+    let (low, top) = (*LEVELS.start(), *LEVELS.end());
+    let ends = [low, low + 1, top - 1, top].map(|level| (level, 300));
+    let near = (2..6).map(|below| (top - below, 80));
+    let carries = (1..=12).map(|bits| ((1 << bits) - 1, 8));
+    for (level, least) in ends.into_iter().chain(near).chain(carries) {
+        let times = met.get(&level).copied().unwrap_or(0);
+        assert!(times > least, "level {level}: {times} times");
+    }
+    assert!(met.len() > 200, "{} levels", met.len());
 }
 
 #[test]

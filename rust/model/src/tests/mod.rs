@@ -11,6 +11,7 @@ mod tapes;
 mod values;
 
 use crate::gen::Rng;
+use crate::machine::{texasr, MAX_LEVEL};
 use crate::{answer, step, valid, Event, Machine, State, Thread};
 
 /// Prints the seed of a property test that fails.
@@ -122,6 +123,14 @@ impl Bench {
             "{e:?} refused"
         );
         assert_eq!(*self, before, "{e:?} changed something");
+        self
+    }
+
+    /// Puts a thread that is in T at this level, as that many tbegin. would.
+    fn at_level(&mut self, thread: usize, level: u64) -> &mut Bench {
+        let t = &mut self.m.threads[thread];
+        t.texasr = t.texasr & !texasr::TL | level;
+        assert!(valid(&self.m, self.mem.len()), "not valid at level {level}");
         self
     }
 

@@ -198,6 +198,24 @@ fn program_lengths() {
     assert_eq!(program(&long), "long\n");
 }
 
+/// The highest level is reached by events: the longest tape of the program
+/// climbs to it and overflows at its last record (rules E1, P2 and K7).
+#[test]
+fn a_tape_climbs_all_levels() {
+    let levels = MAX_LEVEL as usize;
+    let climb = tape(&vec![(0, TBEGIN); levels + 1]);
+    assert_eq!(climb.len(), 65_536);
+    let done: String = (0..levels).map(|n| format!("{n} 0\n")).collect();
+    assert_eq!(program(&climb), done + "4095 20\nend 4096\n");
+    let mut b = Bench::fresh();
+    assert_eq!(run(&mut b.m, &mut b.mem, &climb[..65_520]), (0, levels));
+    assert_eq!((b.thread(0).state, b.thread(0).texasr), (State::T, 4095));
+    b.gives(TBEGIN, 20).is(State::N);
+    let t = b.thread(0);
+    assert_eq!(t.texasr, 0x0040_0000_1C00_0FFF);
+    assert_eq!((t.nia, t.tfiar), (4, 4 * 4095 + 1));
+}
+
 #[test]
 fn a_run_is_its_records_one_by_one() {
     seeds(300, |rng| {

@@ -1,7 +1,6 @@
 //! Rules K1 to K13: the bench values.
 
 use super::*;
-use crate::machine::texasr;
 
 #[test]
 fn k1_tabort() {
@@ -86,13 +85,11 @@ fn k6_the_33rd_line() {
 
 #[test]
 fn k7_nesting() {
-    let mut b = Bench::fresh();
-    for level in 1..=15 {
-        b.done(TBEGIN);
-        assert_eq!(b.thread(0).texasr, level);
-    }
+    let mut b = Bench::begun();
+    b.at_level(0, MAX_LEVEL - 1).done(TBEGIN);
+    assert_eq!(b.thread(0).texasr, 0xFFF);
     b.gives(TBEGIN, 20);
-    assert_eq!(b.thread(0).texasr, 0x0040_0000_1C00_000F);
+    assert_eq!(b.thread(0).texasr, 0x0040_0000_1C00_0FFF);
 }
 
 #[test]
@@ -157,10 +154,9 @@ fn k12_a_load_after_rot_went_off() {
 #[test]
 fn k13_the_highest_level_leaves_rot() {
     let mut b = Bench::fresh();
-    for level in 1..=15 {
-        b.done(TBEGIN_ROT);
-        assert_eq!(b.thread(0).texasr, texasr::ROT | level);
-    }
+    b.done(TBEGIN_ROT).at_level(0, MAX_LEVEL - 1);
+    b.done(TBEGIN_ROT);
+    assert_eq!(b.thread(0).texasr, 0x0200_0FFF);
     b.gives(TBEGIN, 20);
-    assert_eq!(b.thread(0).texasr, 0x0040_0000_1E00_000F);
+    assert_eq!(b.thread(0).texasr, 0x0040_0000_1E00_0FFF);
 }

@@ -47,6 +47,28 @@ fn tbegin_nested() {
     }
 }
 
+/// Every level goes up by one and down again, and no other bit of TEXASR is
+/// touched by a carry. The highest one goes down alone.
+#[test]
+fn each_level_up_and_down() {
+    let others = !(texasr::FS | texasr::ROT | texasr::TL);
+    for level in 1..MAX_LEVEL {
+        let mut b = Bench::begun();
+        b.m.threads[0].texasr = others | level;
+        b.makes(TBEGIN, |before| Thread {
+            cr0: 0b0100,
+            nia: before.nia + 4,
+            texasr: others | (level + 1),
+            ..before
+        });
+        b.makes(TEND, |before| Thread {
+            nia: before.nia + 4,
+            texasr: others | level,
+            ..before
+        });
+    }
+}
+
 /// In S it sets CR0 alone, and with R = 0 leaves ROT.
 #[test]
 fn tbegin_in_s() {

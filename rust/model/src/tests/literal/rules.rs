@@ -6,6 +6,10 @@ use super::access::access;
 use super::plain::{Lower, Plain};
 use crate::{Event, State};
 
+/// The level that no transaction passes, four thousand and ninety-five: a
+/// tbegin. there fails.
+const HIGHEST_LEVEL: u32 = 4_095;
+
 /// What a failure of the thread's own did.
 pub fn own_failure(t: &mut Plain, cause: u32, cia: u64) -> u8 {
     let in_t = t.state == State::T;
@@ -150,7 +154,7 @@ fn tbegin(t: &mut Plain, r: bool, cia: u64) -> u8 {
             t.lower = Lower::from(1);
             t.lower.rot = r;
         }
-        State::T if t.lower.tl == 15 => return own_failure(t, 0x0040_0000, cia),
+        State::T if t.lower.tl == HIGHEST_LEVEL => return own_failure(t, 0x0040_0000, cia),
         State::T => {
             t.lower.tl += 1;
             if !r {

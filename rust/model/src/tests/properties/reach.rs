@@ -144,7 +144,7 @@ const OTHER_ANSWERS: [(u8, &str, u8); 9] = [
     (13, "T", 20),
 ];
 
-const SPECIAL: [&str; 20] = [
+const SPECIAL: [&str; 23] = [
     "std overflow: lines false, places true",
     "std overflow: lines true, places true",
     "ld at 32: own line false, rot true",
@@ -160,7 +160,10 @@ const SPECIAL: [&str; 20] = [
     "nested, rot false, R true",
     "nested, rot true, R false",
     "nested, rot true, R true",
+    "too deep, rot false, R false",
+    "too deep, rot false, R true",
     "too deep, rot true, R false",
+    "too deep, rot true, R true",
     "tend to N, rot false",
     "tend to N, rot true",
     "tend to T, rot false",
@@ -173,7 +176,7 @@ fn wanted() -> Vec<String> {
     let kinds = (1..=17).flat_map(|kind| STATES.map(|state| of_kind(kind, state)));
     let others =
         OTHER_ANSWERS.map(|(kind, state, number)| format!("kind {kind} in {state}: {number}"));
-    let levels = [2, 3, 15].map(|level| format!("nested to {level}"));
+    let levels = [2, 3, MAX_LEVEL].map(|level| format!("nested to {level}"));
     let accesses = ["ld", "std"].into_iter().flat_map(of_access);
     let mut wanted = answers.to_vec();
     wanted.extend(kinds.flatten());
