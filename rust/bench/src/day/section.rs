@@ -1,7 +1,7 @@
 //! Critical sections, and what a program does about one that failed.
 
 use model::gen::Rng;
-use model::machine::{LINE, MAX_FOOTPRINT, MAX_LEVEL};
+use model::machine::{LINE, MAX_FOOTPRINT};
 use model::Event;
 
 /// The locks; each lock's word is the first of a line of its own.
@@ -12,6 +12,9 @@ const GUARDED_LINES: usize = 24;
 /// The lines from here on are the threads' own.
 const OWN: usize = GUARDED + LOCKS * GUARDED_LINES;
 const OWN_LINES: usize = 8;
+/// The levels of a program that calls itself in a transaction. On no day does
+/// one come near the highest level.
+const CALLS: usize = 15;
 /// What tabortwc. and tabortdc. call "not equal".
 const NOT_EQUAL: u8 = 16 + 8;
 
@@ -216,8 +219,8 @@ fn watched(rng: &mut Rng, lock: usize) -> Vec<Event> {
     events
 }
 
-/// A section that no transaction can do: a disallowed instruction, too many
-/// lines, too deep.
+/// A section that no transaction can do, with a disallowed instruction or too
+/// many lines, or a deep one.
 fn seldom(rng: &mut Rng, lock: usize) -> Vec<Event> {
     let mut events = body(rng, lock);
     match rng.below(4) {
@@ -225,10 +228,17 @@ fn seldom(rng: &mut Rng, lock: usize) -> Vec<Event> {
             rt: 16,
             index: (GUARDED * LINE) as u32 + line * LINE as u32,
         })),
-        1 => events.extend((0..MAX_LEVEL).map(|_| Event::Tbegin { r: false })),
+        1 => events.extend(deep()),
         _ => events.push(Event::Disallowed),
     }
     events
+}
+
+/// Transactions in each other, each with an end of its own.
+fn deep() -> impl Iterator<Item = Event> {
+    let begins = [Event::Tbegin { r: false }; CALLS];
+    let ends = [Event::Tend { a: false }; CALLS];
+    begins.into_iter().chain(ends)
 }
 
 /// A look at a lock that is held, and a count of the looks.
