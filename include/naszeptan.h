@@ -33,7 +33,7 @@ extern "C" {
 /* The version of the rules that this header was written for: the model's
  * version in the upper 16 bits, the change requests that have landed in the
  * lower. naszeptan_version() gives the archive's. */
-#define NASZEPTAN_VERSION UINT32_C(0x00040003)
+#define NASZEPTAN_VERSION UINT32_C(0x00040004)
 
 /* Sizes. */
 #define NASZEPTAN_THREADS 4        /* thread records of a machine */
@@ -43,6 +43,7 @@ extern "C" {
 #define NASZEPTAN_LINE 16          /* doublewords of a line */
 #define NASZEPTAN_MEMORY 4096      /* doublewords of the largest memory */
 #define NASZEPTAN_PLACES 64        /* places of a transaction's log */
+#define NASZEPTAN_LEVELS 4095      /* the highest level of a transaction */
 #define NASZEPTAN_RECORD_SIZE 16   /* bytes of a tape record */
 #define NASZEPTAN_FIRST_BYTE 0xE3  /* first byte of each record */
 
