@@ -20,7 +20,7 @@ use Rattle.host.specs.declared.RawDone.{RawDone}
 use Rattle.host.specs.declared.RawEnded.{RawEnded}
 use Rattle.host.specs.declared.RawRecord.{RawRecord}
 
--- version four, three change requests landed; src/lib.rt has the same number for the code
+-- version four above, the change requests that have landed below; src/lib.rt has the same number for the code
 abbrev pub version : ℕ
 version = 0x00040004
 
