@@ -319,6 +319,40 @@ struct naszeptan_record naszeptan_read(const uint8_t *record, size_t bytes);
 uint8_t naszeptan_write(struct naszeptan_event event,
                         uint8_t *buffer, size_t bytes);
 
+/* Tapes of edition two (docs/RULES.md, T8 to T13). All calls above are of
+ * edition three; nothing guesses an edition. */
+
+/* One record of edition two as an event. Refused by 6, 7, 8, 9 in this order;
+ * 7 is a first byte, the thread, above 3. */
+struct naszeptan_record naszeptan_read_two(const uint8_t *record, size_t bytes);
+
+/* One event as a record of edition two, in the buffer's first 16 bytes.
+ * Refused by 8 and 9 (no event), 3 (a thread above 3), 8 (a kind above 17) and
+ * 10 in this order. */
+uint8_t naszeptan_write_two(struct naszeptan_event event,
+                            uint8_t *buffer, size_t bytes);
+
+/* What a converter answers. 0: all records are converted, and index is their
+ * number. 6: index is the number of whole records. 10: the buffer is shorter
+ * than the tape, and index is 0. Any other number is that of a record, the
+ * first that is refused, and index is its own, from 0. */
+struct naszeptan_converted {
+  uint8_t answer;
+  size_t index;
+};
+
+/* A tape of edition two as one of edition three, and back. The buffer is
+ * written only where the answer is 0, and only its first bytes, as many as the
+ * tape has. Tape and buffer must not overlap. */
+struct naszeptan_converted naszeptan_two_to_three(const uint8_t *tape,
+                                                  size_t bytes,
+                                                  uint8_t *buffer,
+                                                  size_t room);
+struct naszeptan_converted naszeptan_three_to_two(const uint8_t *tape,
+                                                  size_t bytes,
+                                                  uint8_t *buffer,
+                                                  size_t room);
+
 #ifdef __cplusplus
 }
 #endif
