@@ -19,10 +19,10 @@ use Rattle.refusal.specs.Refusal.{in-t}
 use Rattle.machine.specs.declared.Machine.{Machine}
 use Rattle.machine.proofs.Validity.{valid-passes}
 use Rattle.laws_keeping.proofs.Keeping.{keeps}
-use Rattle.tape.specs.Tape.{record-size, read}
+use Rattle.tape.specs.Tape.{record-size, read, record-at}
 use Rattle.tape.specs.declared.Read.{Read}
 use Rattle.tape.specs.declared.Read.the-variants.{Record, Refused}
-use Rattle.run.specs.Run.{Result, result, in-front, goes-on, record-at, reads, counted, one, play, run}
+use Rattle.run.specs.Run.{Result, result, in-front, goes-on, reads, counted, one, play, run}
 use Rattle.run.specs.Steps.{events}
 use Rattle.run.proofs.Laws.{run-refused, run-plays}
 use Rattle.run.proofs.Steps.{stop-refused}

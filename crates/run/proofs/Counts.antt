@@ -10,8 +10,8 @@ use lib.ListN.{length, getD}
 use borrow.Author.Tests.{eqb-true}
 use Rattle.machine.specs.Valid.{valid}
 use Rattle.machine.specs.declared.Machine.{Machine}
-use Rattle.tape.specs.Tape.{record-size, read}
-use Rattle.run.specs.Run.{Result, in-front, record-at, reads, one, play, run}
+use Rattle.tape.specs.Tape.{record-size, read, record-at}
+use Rattle.run.specs.Run.{Result, in-front, reads, one, play, run}
 use Rattle.run.specs.Steps.{Stops, EndsFirst, OneAnswerEach}
 use Rattle.run.proofs.Laws.{one-answer, play-stops, play-goes, run-plays}
 use Rattle.run.proofs.Steps.{one-stops}

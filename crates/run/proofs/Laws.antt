@@ -2,23 +2,23 @@
 use mathlib.Core.Path.{_≡_, refl, ap, _∙_}
 use mathlib.Core.Bool.{Bool, true, false, not, cond}
 use mathlib.Core.List.{List, [], _∷_}
-use Prim.Native.Nat.{ℕ, zero, suc, _+_, _-_, _*_, _/_, _%_, _≤_, _<_}
+use Prim.Native.Nat.{ℕ, zero, suc, _+_, _-_, _/_, _%_, _≤_, _<_}
 use native.Mathlib.Nat.{not-suc-le-zero}
 use native.Mathlib.Omega.{arith}
 use borrow.Author.Tests.{eq-eqb, ne-eqb}
 use lib.Dec.{eqb}
-use lib.ListN.{length, take, drop, set}
+use lib.ListN.{length, set}
 use lib.Seq.{sets}
 use Rattle.machine.specs.Valid.{valid, machine-number, first-of}
 use Rattle.machine.proofs.Validity.{valid-passes}
 use Rattle.step.specs.Step.{Outcome}
 use Rattle.machine.specs.declared.Machine.{Machine}
-use Rattle.tape.specs.Tape.{record-size, read}
+use Rattle.tape.specs.Tape.{record-size, read, record-at}
 use Rattle.tape.specs.declared.Read.{Read}
 use Rattle.tape.specs.declared.Read.the-variants.{Record, Refused}
 use Rattle.laws_keeping.proofs.Keeping.{keeps}
 use Rattle.run.specs.Inner.{filled}
-use Rattle.run.specs.Run.{Result, result, in-front, goes-on, record-at, reads, counted, one, play, tape-number, run}
+use Rattle.run.specs.Run.{Result, result, in-front, goes-on, reads, counted, one, play, tape-number, run}
 
 -- an event that the run goes on after is counted, another is not
 pub is-counted : (o : Outcome) (k : ℕ) → goes-on (o .done .answer) ≡ true
@@ -41,13 +41,6 @@ pub one-answer : (r : Read) (m : Machine) (mem : List ℕ) (k : ℕ) → one r m
 unfolding one counted
 one-answer (Refused n) m mem k = refl
 one-answer (Record w e) m mem k = refl
-
--- a record of a tape as the code takes it
-pub part-is : (tape : List ℕ) (k : ℕ) → take (k * record-size + record-size - k * record-size) (drop (k * record-size) tape) ≡ record-at tape k
-part-is tape k =
-    let a : k * record-size + record-size - k * record-size ≡ record-size = omega arith in
-    let b : k * record-size ≡ record-size * k = omega arith in
-    λ j. take (a j) (drop (b j) tape)
 
 -- the end of the tape, and one turn before it
 module _ (tape : List ℕ) (k : ℕ) (m : Machine) (mem : List ℕ) where

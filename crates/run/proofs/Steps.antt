@@ -16,10 +16,10 @@ use Rattle.step.specs.Step.{Outcome, outcome, perform, step}
 use Rattle.step.specs.Feed.{Fed, feed, from}
 use Rattle.machine.specs.declared.Machine.{Machine}
 use Rattle.step.proofs.Laws.{step-refused, step-passed}
-use Rattle.tape.specs.Tape.{record-size, read}
+use Rattle.tape.specs.Tape.{record-size, read, record-at}
 use Rattle.tape.specs.declared.Read.{Read}
 use Rattle.tape.specs.declared.Read.the-variants.{Record, Refused}
-use Rattle.run.specs.Run.{Result, result, in-front, goes-on, record-at, reads, counted, one, play, tape-number, run}
+use Rattle.run.specs.Run.{Result, result, in-front, goes-on, reads, counted, one, play, tape-number, run}
 use Rattle.run.specs.Steps.{fed, events, all-go, RunIsSteps, StopChangesNothing, CountedWent, Stops}
 use Rattle.run.proofs.Laws.{uncounted, play-stops, play-goes}
 use Rattle.run.proofs.Answers.{effect-done}

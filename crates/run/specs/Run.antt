@@ -1,14 +1,14 @@
 -- A tape run on a machine, record by record (rules R1 to R4).
-use Prim.Native.Nat.{ℕ, zero, suc, _+_, _*_, _/_, _%_}
+use Prim.Native.Nat.{ℕ, zero, suc, _+_, _/_, _%_}
 use mathlib.Core.Bool.{Bool, cond, _||_}
 use mathlib.Core.List.{List, [], _∷_}
 use lib.Dec.{eqb}
-use lib.ListN.{length, take, drop}
+use lib.ListN.{length}
 use Rattle.base.specs.Answers as answer
 use Rattle.machine.specs.Valid.{machine-number, first-of}
 use Rattle.step.specs.Step.{Outcome, step}
 use Rattle.machine.specs.declared.Machine.{Machine}
-use Rattle.tape.specs.Tape.{record-size, read}
+use Rattle.tape.specs.Tape.{record-size, read, record-at}
 use Rattle.tape.specs.declared.Read.{Read}
 use Rattle.tape.specs.declared.Read.the-variants.{Record, Refused}
 use Rattle.run.specs.declared.Ended.{Ended}
@@ -29,10 +29,6 @@ in-front n r = record { ended = r .ended; memory = r .memory; answers = n ∷ r 
 -- a run goes on after 0, 20 and 21
 abbrev pub goes-on : ℕ → Bool
 goes-on n = eqb n answer.done || eqb n answer.handled || eqb n answer.recorded
-
--- record k of a tape
-abbrev pub record-at : List ℕ → ℕ → List ℕ
-record-at tape k = take record-size (drop (record-size * k) tape)
 
 -- what the reader answers for n records of a tape, from record k on
 unfoldable pub reads : List ℕ → ℕ → ℕ → List Read

@@ -11,10 +11,10 @@ use Rattle.step.specs.Step.{Outcome, outcome, step}
 use Rattle.step.specs.Feed.{Fed, from, after, feed}
 use Rattle.machine.specs.declared.Machine.{Machine}
 use Rattle.event.specs.declared.Event.{Event}
-use Rattle.tape.specs.Tape.{record-size, read}
+use Rattle.tape.specs.Tape.{record-size, read, record-at}
 use Rattle.tape.specs.declared.Read.{Read}
 use Rattle.tape.specs.declared.Read.the-variants.{Record, Refused}
-use Rattle.run.specs.Run.{Result, goes-on, record-at, reads, run}
+use Rattle.run.specs.Run.{Result, goes-on, reads, run}
 
 -- the event of a record, if it is one
 abbrev pub fed : Read → List Fed

@@ -1,17 +1,16 @@
--- What the reader's tests tell: its first two, and its match on the kind; and bytes laid over a buffer's start.
+-- What the reader's tests tell: its first two, and its match on the kind; a tape's record as code takes it; bytes laid over a buffer's start.
 use mathlib.Core.Path.{_≡_, _∙_}
 use mathlib.Core.Bool.{Bool, true, _&&_}
 use mathlib.Core.List.{List, _++_}
-use Prim.Native.Nat.{ℕ, _+_, _<_, _≤_}
+use Prim.Native.Nat.{ℕ, _+_, _-_, _*_, _<_, _≤_}
 use native.Mathlib.Omega.{arith}
 use native.Mathlib.Nat.{zero-add}
-use native.Mathlib.Numerals.{add-one}
-use lib.ListN.{length, take, drop, getD, set}
-use lib.Seq.{sets, sets-eq, paste-suc}
+use lib.ListN.{length, take, drop}
+use lib.Seq.{sets, sets-eq}
 use borrow.Author.Tests.{le-leb, lt-leb, eq-eqb}
 use Rattle.event.specs.Rows.{rows, kind-right, row}
 use Rattle.event.specs.declared.Fields.{Fields}
-use Rattle.tape.specs.Tape.{record-size, first-byte, byte, fields-at, fixed-zero, unused-clear, judged, of-kind, read}
+use Rattle.tape.specs.Tape.{record-size, first-byte, byte, record-at, fields-at, fixed-zero, unused-clear, judged, of-kind, read}
 use Rattle.tape.specs.declared.Read.{Read}
 use Rattle.tape.specs.declared.Read.the-variants.{Refused}
 
@@ -39,12 +38,13 @@ pub high : (f : Fields) (zero : Bool) → length rows < f .kind → Refused 8 �
 unfolding kind-right of-kind
 high f zero h = let l : 1 ≤ f .kind = omega arith in simp (le-leb 1 (f .kind) l, lt-leb (f .kind) (length rows) h)
 
--- bytes laid over a buffer's start: the first i of them, one more, all
-abbrev pub over : List ℕ → List ℕ → ℕ → List ℕ
-over buf cs i = take i cs ++ drop i buf
+-- a record of a tape as the code takes it
+pub part-is : (tape : List ℕ) (k : ℕ) → take (k * record-size + record-size - k * record-size) (drop (k * record-size) tape) ≡ record-at tape k
+part-is tape k =
+    let a : k * record-size + record-size - k * record-size ≡ record-size = omega arith in
+    let b : k * record-size ≡ record-size * k = omega arith in
+    λ j. take (a j) (drop (b j) tape)
 
-pub over-more : (buf cs : List ℕ) (i : ℕ) → i < length buf → i < length cs → set (over buf cs i) i (getD cs i 0) ≡ over buf cs (i + 1)
-over-more buf cs i hb hc = simp (zero-add, ← add-one) at (paste-suc buf 0 cs i 0 (omega arith) hc)
-
+-- bytes laid over a buffer's start
 pub over-all : (buf cs : List ℕ) → length cs ≤ length buf → sets buf 0 cs ≡ cs ++ drop (length cs) buf
 over-all buf cs h = simp zero-add at (sets-eq cs buf 0 (omega arith))

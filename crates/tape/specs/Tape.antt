@@ -4,7 +4,7 @@ use mathlib.Core.Bool.{Bool, not, cond, _&&_, _||_}
 use mathlib.Core.List.{List, [], _∷_}
 use mathlib.Core.Option.{Option, some, none}
 use lib.Dec.{eqb, leb, ltb}
-use lib.ListN.{getD, length}
+use lib.ListN.{getD, length, take, drop}
 use lib.Seq.{sets}
 use Rattle.base.specs.Answers as answer
 use Rattle.event.specs.declared.Event.{Event}
@@ -24,6 +24,10 @@ first-byte = 0xE3
 
 abbrev pub byte : List ℕ → ℕ → ℕ
 byte bs n = getD bs n 0
+
+-- record k of a tape
+abbrev pub record-at : List ℕ → ℕ → List ℕ
+record-at tape k = take record-size (drop (record-size * k) tape)
 
 -- numbers of two and four bytes, highest first
 abbrev pub two : ℕ → ℕ → ℕ

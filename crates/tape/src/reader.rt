@@ -14,13 +14,13 @@ use event::rows;
 use event::rows::Row;
 
 // Numbers of two and four bytes, highest first.
-fn two(a: u8, b: u8) -> u16
+pub fn two(a: u8, b: u8) -> u16
     ensures { λ r. ⌜ r ≡ two a b ⌝ }
 {
     a as u16 * 256 + b as u16
 }
 
-fn four(a: u8, b: u8, c: u8, d: u8) -> u32
+pub fn four(a: u8, b: u8, c: u8, d: u8) -> u32
     ensures { λ r. ⌜ r ≡ four a b c d ⌝ }
 {
     a as u32 * 0x1000000 + b as u32 * 0x10000 + c as u32 * 0x100 + d as u32

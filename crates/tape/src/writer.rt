@@ -1,6 +1,6 @@
 // The writer of one record.
 ghost use mathlib.Core.Path.{_≡_};
-ghost use Prim.Native.Nat.{_≤_};
+ghost use Prim.Native.Nat.{_+_, _≤_};
 ghost use lib.ListN.{length};
 ghost use lib.Seq.{sets};
 ghost use Rattle.tape.specs.Tape.{record-size, bytes, write-answer, write};
@@ -36,14 +36,14 @@ pub fn bytes(f: Fields) -> [u8; RECORD_SIZE]
     ]
 }
 
-// A record's bytes at the buffer's start, whatever its layout.
-fn put(buf: &mut [u8], src: &[u8])
-    requires { ⌜ length (now src) ≤ length (now buf) ⌝ }
-    ensures { λ r. ⌜ now (buf .exit) ≡ sets (now (buf .entry)) 0 (now (src .entry)) ⌝ }
+// A record's bytes at a place of the buffer, whatever their layout.
+pub fn put(buf: &mut [u8], at: usize, src: &[u8])
+    requires { ⌜ at + length (now src) ≤ length (now buf) ⌝ }
+    ensures { λ r. ⌜ now (buf .exit) ≡ sets (now (buf .entry)) at (now (src .entry)) ⌝ }
 {
     let mut i = 0;
     while i < src.len() {
-        buf[i] = src[i];
+        buf[at + i] = src[i];
         i += 1;
     }
 }
@@ -57,6 +57,6 @@ pub fn write(thread: u8, e: Event, buf: &mut [u8]) -> u8
         return answer::SHORT_BUFFER;
     }
     let record = bytes(event::fields_of(thread, e));
-    put(buf, &record);
+    put(buf, 0, &record);
     answer::DONE
 }

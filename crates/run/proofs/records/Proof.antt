@@ -11,10 +11,11 @@ use lib.ListN.{length, set}
 use Rattle.machine.specs.Valid.{valid}
 use Rattle.machine.specs.declared.Machine.{Machine}
 use Rattle.rows.specs.Rows.{rows, machine-of}
-use Rattle.tape.specs.Tape.{read}
+use Rattle.tape.specs.Tape.{read, record-at}
+use Rattle.tape.proofs.Laws.{part-is}
 use Rattle.run.specs.Inner.{filled}
-use Rattle.run.specs.Run.{Result, result, record-at, reads, one, play}
-use Rattle.run.proofs.Laws.{part-is, play-none, fills-stops, fills-goes, one-keeps}
+use Rattle.run.specs.Run.{Result, result, reads, one, play}
+use Rattle.run.proofs.Laws.{play-none, fills-stops, fills-goes, one-keeps}
 use Rattle.run.proofs.records.Statement.{statement}
 use Rattle.run.proofs.records.Tie as tie
 
