@@ -23,7 +23,7 @@ use Rattle.tape.specs.Tape.{record-size, first-byte, byte, two, four, fields-at
 use Rattle.tape.specs.declared.Read.{Read}
 use Rattle.tape.specs.declared.Read.the-variants.{Record, Refused}
 use Rattle.tape.proofs.Laws.{begun-right, over-all}
-use Rattle.laws_round.specs.Round.{FieldsFit, Bytes, EventKept, FieldsKept, Layout, Means, laid, LayoutReadsWritten, LayoutWritesRead, LayoutKeepsRest, accepts, ReadsWritten, WritesRead, WritesOver, KeepsRest, OneRecord, PaperRecord, NumbersInOrder, OneMeaning, EditionTwo}
+use Rattle.laws_round.specs.Round.{FieldsFit, Bytes, EventKept, FieldsKept, Layout, Means, laid, LayoutReadsWritten, LayoutWritesRead, LayoutOneRecord, LayoutTurned, LayoutKeepsRest, accepts, ReadsWritten, WritesRead, WritesOver, KeepsRest, OneRecord, PaperRecord, NumbersInOrder, OneMeaning, EditionTwo}
 
 -- ---- what the reader takes
 
@@ -32,19 +32,19 @@ refused : (n w : ℕ) (e : Event) → Refused n ≡ Record w e → ⊥
 refused n w e p = let z : _≡_ {A = ℕ} 0 1 = cc in omega arith
 
 -- a test on the way to a record
-passed : (b : Bool) (n : ℕ) (r : Read) (w : ℕ) (e : Event) → cond (not b) (Refused n) r ≡ Record w e → (b ≡ true) × (r ≡ Record w e)
+pub passed : (b : Bool) (n : ℕ) (r : Read) (w : ℕ) (e : Event) → cond (not b) (Refused n) r ≡ Record w e → (b ≡ true) × (r ≡ Record w e)
 passed true n r w e p = (refl, p)
 passed false n r w e p = absurd (refused n w e p)
 
 -- what a record that is read has passed; z says that every fixed 0 byte is 0
-record Taken (f : Fields) (z : Bool) (w : ℕ) (e : Event) : Type 0 where
-  right : kind-right (f .kind) ≡ true
-  fixed : z ≡ true
-  clear : unused-clear (row (f .kind)) f ≡ true
-  thread : f .thread ≡ w
-  event : event-of f ≡ e
+pub record Taken (f : Fields) (z : Bool) (w : ℕ) (e : Event) : Type 0 where
+  pub right : kind-right (f .kind) ≡ true
+  pub fixed : z ≡ true
+  pub clear : unused-clear (row (f .kind)) f ≡ true
+  pub thread : f .thread ≡ w
+  pub event : event-of f ≡ e
 
-taken : (f : Fields) (z : Bool) (w : ℕ) (e : Event) → of-kind f z ≡ Record w e → Taken f z w e
+pub taken : (f : Fields) (z : Bool) (w : ℕ) (e : Event) → of-kind f z ≡ Record w e → Taken f z w e
 unfolding of-kind judged
 taken f z w e p =
     let k = passed (kind-right (f .kind)) 8 _ w e p in
@@ -197,13 +197,30 @@ module _ (l : Layout) (w : ℕ) (e : Event) (buf : List ℕ) where
   length-kept true p = simp p
   length-kept false p = simp (p, length-sets)
 
+-- the bytes of an event
+told : (l : Layout) (w : ℕ) (e : Event) → FieldsFit (fields-of w e) → l .takes (fields-of w e) ≡ true → Means l (l .to-bytes (fields-of w e)) w e
+told l w e fits t = (l .sized _, l .accepted _ t, rw (l .fields-back (fields-of w e) fits) (written w e))
+
+-- the fields of bytes that mean an event, and their bytes
+meant-fields : (l : Layout) (bs : List ℕ) (w : ℕ) (e : Event) → Means l bs w e → fields-of w e ≡ l .of-bytes bs
+meant-fields l bs w e m = taken-kept (l .of-bytes bs) w e (m .2)
+
+meant-bytes : (l : Layout) (bs : List ℕ) (w : ℕ) (e : Event) → Bytes bs → Means l bs w e → l .to-bytes (fields-of w e) ≡ bs
+meant-bytes l bs w e h m = ap (l .to-bytes) (meant-fields l bs w e m) ∙ l .bytes-back bs h (m .0) (m .1)
+
 pub layout-reads-written : LayoutReadsWritten
-layout-reads-written l w e buf h fits =
-    rw (front l w e buf h) (l .sized _, l .accepted _, rw (l .fields-back (fields-of w e) fits) (written w e))
+layout-reads-written l w e buf h fits t = rw (front l w e buf h) (told l w e fits t)
 
 pub layout-writes-read : LayoutWritesRead
-layout-writes-read l bs w e buf h m long =
-    front l w e buf long ∙ ap (l .to-bytes) (taken-kept (l .of-bytes bs) w e (m .2)) ∙ l .bytes-back bs h (m .0) (m .1)
+layout-writes-read l bs w e buf h m long = front l w e buf long ∙ meant-bytes l bs w e h m
+
+pub layout-one-record : LayoutOneRecord
+layout-one-record l bs cs w e hb hc p q = sym (meant-bytes l bs w e hb p) ∙ meant-bytes l cs w e hc q
+
+pub layout-turned : LayoutTurned
+layout-turned l k bs w e h m t =
+    let f = meant-fields l bs w e m in
+    (told k w e (subst FieldsFit (sym f) (l .fits bs h)) t, ap (l .takes) f ∙ l .took bs (m .1), meant-bytes l bs w e h m)
 
 pub layout-keeps-rest : LayoutKeepsRest
 layout-keeps-rest l w e buf = (length-kept l w e buf _ refl, rest l w e buf _ refl)
@@ -211,25 +228,25 @@ layout-keeps-rest l w e buf = (length-kept l w e buf _ refl, rest l w e buf _ re
 -- ---- the tape's layout
 
 -- a number of four or two bytes is its bytes, and they are it
-four-back : (i : ℕ) → i < 2 ^ 32 → four (i / 256 / 256 / 256 % 256) (i / 256 / 256 % 256) (i / 256 % 256) (i % 256) ≡ i
+pub four-back : (i : ℕ) → i < 2 ^ 32 → four (i / 256 / 256 / 256 % 256) (i / 256 / 256 % 256) (i / 256 % 256) (i % 256) ≡ i
 four-back i h = omega arith
 
-two-back : (i : ℕ) → i < 2 ^ 16 → two (i / 256 % 256) (i % 256) ≡ i
+pub two-back : (i : ℕ) → i < 2 ^ 16 → two (i / 256 % 256) (i % 256) ≡ i
 two-back i h = omega arith
 
-four-bytes : (a b c d : ℕ) → a < 256 → b < 256 → c < 256 → d < 256
+pub four-bytes : (a b c d : ℕ) → a < 256 → b < 256 → c < 256 → d < 256
     → (four a b c d / 256 / 256 / 256 % 256 ≡ a) × (four a b c d / 256 / 256 % 256 ≡ b) × (four a b c d / 256 % 256 ≡ c) × (four a b c d % 256 ≡ d)
 four-bytes a b c d ha hb hc hd = (omega arith, omega arith, omega arith, omega arith)
 
-two-bytes : (a b : ℕ) → a < 256 → b < 256 → (two a b / 256 % 256 ≡ a) × (two a b % 256 ≡ b)
+pub two-bytes : (a b : ℕ) → a < 256 → b < 256 → (two a b / 256 % 256 ≡ a) × (two a b % 256 ≡ b)
 two-bytes a b ha hb = (omega arith, omega arith)
 
 -- a list by its elements
-abbrev listed : ℕ → (ℕ → ℕ) → List ℕ
+abbrev pub listed : ℕ → (ℕ → ℕ) → List ℕ
 listed zero b = []
 listed (suc n) b = b 0 ∷ listed n (λ i. b (suc i))
 
-listed-back : (n : ℕ) (bs : List ℕ) → length bs ≡ n → listed n (byte bs) ≡ bs
+pub listed-back : (n : ℕ) (bs : List ℕ) → length bs ≡ n → listed n (byte bs) ≡ bs
 listed-back zero [] e = refl
 listed-back zero (b ∷ bs) e = absurd (omega arith)
 listed-back (suc n) [] e = absurd (omega arith)
@@ -259,6 +276,27 @@ pub accepted : (f : Fields) → accepts (bytes f) ≡ true
 unfolding bytes
 accepted f = refl
 
+-- bytes in four places and in two are below 2^32 and 2^16
+pub four-fits : (a b c d : ℕ) → a < 256 → b < 256 → c < 256 → d < 256 → four a b c d < 2 ^ 32
+four-fits a b c d ha hb hc hd = omega arith
+
+pub two-fits : (a b : ℕ) → a < 256 → b < 256 → two a b < 2 ^ 16
+two-fits a b ha hb = omega arith
+
+pub fits : (bs : List ℕ) → Bytes bs → FieldsFit (fields-at bs)
+unfolding fields-at
+fits bs h =
+    record {
+      kind = h 1;
+      thread = h 2;
+      x = h 3;
+      ra = h 4;
+      rb = h 5;
+      flags = h 6;
+      index = four-fits (byte bs 8) (byte bs 9) (byte bs 10) (byte bs 11) (h 8) (h 9) (h 10) (h 11);
+      si = two-fits (byte bs 12) (byte bs 13) (h 12) (h 13);
+    }
+
 pub fields-back : (f : Fields) → FieldsFit f → fields-at (bytes f) ≡ f
 unfolding bytes fields-at
 fields-back f fit =
@@ -278,9 +316,12 @@ tape = record {
   size = record-size;
   to-bytes = bytes;
   of-bytes = fields-at;
+  takes = λ f. true;
   accepts = accepts;
   sized = sized;
-  accepted = accepted;
+  accepted = λ f t. accepted f;
+  took = λ bs a. refl;
+  fits = fits;
   fields-back = fields-back;
   bytes-back = bytes-back;
 }
@@ -302,7 +343,7 @@ means-read bs w e m =
 
 pub reads-written : ReadsWritten
 unfolding write
-reads-written w e buf h fits = means-read _ w e (layout-reads-written tape w e buf h fits)
+reads-written w e buf h fit = means-read _ w e (layout-reads-written tape w e buf h fit refl)
 
 pub writes-read : WritesRead
 unfolding write
@@ -318,9 +359,7 @@ writes-over bs w e h p =
     sym (take-all record-size _ (omega (arith, keeps-rest w e bs .0))) ∙ writes-read bs w e bs h p (omega arith)
 
 pub one-record : OneRecord
-one-record bs cs w e hb hc p q =
-    let n = read-means bs w e p .0 in
-    sym (writes-read bs w e bs hb p (omega arith)) ∙ writes-read cs w e bs hc q (omega arith)
+one-record bs cs w e hb hc p q = layout-one-record tape bs cs w e hb hc (read-means bs w e p) (read-means cs w e q)
 
 pub paper-record : PaperRecord
 unfolding bytes fields-of write

@@ -48,14 +48,18 @@ FieldsKept =
 
 -- ---- any layout
 
--- how fields stand in bytes: accepts says that the first byte and the fixed bytes are right
+-- how fields stand in bytes: takes says that the layout has a record for the fields, accepts that what marks a record of it is right, and
+-- the fixed bytes
 pub record Layout : Type 0 where
   pub size : ℕ
   pub to-bytes : Fields → List ℕ
   pub of-bytes : List ℕ → Fields
+  pub takes : Fields → Bool
   pub accepts : List ℕ → Bool
   pub sized : (f : Fields) → length (to-bytes f) ≡ size
-  pub accepted : (f : Fields) → accepts (to-bytes f) ≡ true
+  pub accepted : (f : Fields) → takes f ≡ true → accepts (to-bytes f) ≡ true
+  pub took : (bs : List ℕ) → accepts bs ≡ true → takes (of-bytes bs) ≡ true
+  pub fits : (bs : List ℕ) → Bytes bs → FieldsFit (of-bytes bs)
   pub fields-back : (f : Fields) → FieldsFit f → of-bytes (to-bytes f) ≡ f
   pub bytes-back : (bs : List ℕ) → Bytes bs → length bs ≡ size → accepts bs ≡ true → to-bytes (of-bytes bs) ≡ bs
 
@@ -67,10 +71,10 @@ Means l bs w e = (length bs ≡ l .size) × (l .accepts bs ≡ true) × (of-kind
 abbrev pub laid : Layout → ℕ → Event → List ℕ → List ℕ
 laid l w e buf = cond (ltb (length buf) (l .size)) buf (sets buf 0 (l .to-bytes (fields-of w e)))
 
--- every event whose fields fit is read where it was written
+-- every event whose fields fit, and which has a record, is read where it was written
 abbrev pub LayoutReadsWritten : Type 0
 LayoutReadsWritten =
-    (l : Layout) (w : ℕ) (e : Event) (buf : List ℕ) → l .size ≤ length buf → FieldsFit (fields-of w e)
+    (l : Layout) (w : ℕ) (e : Event) (buf : List ℕ) → l .size ≤ length buf → FieldsFit (fields-of w e) → l .takes (fields-of w e) ≡ true
     → Means l (take (l .size) (laid l w e buf)) w e
 
 -- every record that is read is written as it was, whatever stood in the buffer
@@ -78,6 +82,17 @@ abbrev pub LayoutWritesRead : Type 0
 LayoutWritesRead =
     (l : Layout) (bs : List ℕ) (w : ℕ) (e : Event) (buf : List ℕ) → Bytes bs → Means l bs w e → l .size ≤ length buf
     → take (l .size) (laid l w e buf) ≡ bs
+
+-- one meaning has one record
+abbrev pub LayoutOneRecord : Type 0
+LayoutOneRecord =
+    (l : Layout) (bs cs : List ℕ) (w : ℕ) (e : Event) → Bytes bs → Bytes cs → Means l bs w e → Means l cs w e → bs ≡ cs
+
+-- a record of one layout that has one in another means the same there, and turned back it is the bytes that it was
+abbrev pub LayoutTurned : Type 0
+LayoutTurned =
+    (l k : Layout) (bs : List ℕ) (w : ℕ) (e : Event) → Bytes bs → Means l bs w e → k .takes (fields-of w e) ≡ true
+    → Means k (k .to-bytes (fields-of w e)) w e × (l .takes (fields-of w e) ≡ true) × (l .to-bytes (fields-of w e) ≡ bs)
 
 -- nothing behind the record is touched
 abbrev pub LayoutKeepsRest : Type 0
