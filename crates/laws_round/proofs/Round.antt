@@ -197,19 +197,19 @@ module _ (l : Layout) (w : ℕ) (e : Event) (buf : List ℕ) where
   length-kept true p = simp p
   length-kept false p = simp (p, length-sets)
 
--- the bytes of an event
-told : (l : Layout) (w : ℕ) (e : Event) → FieldsFit (fields-of w e) → l .takes (fields-of w e) ≡ true → Means l (l .to-bytes (fields-of w e)) w e
-told l w e fits t = (l .sized _, l .accepted _ t, rw (l .fields-back (fields-of w e) fits) (written w e))
+-- the bytes of an event mean it
+pub bytes-mean : (l : Layout) (w : ℕ) (e : Event) → FieldsFit (fields-of w e) → l .takes (fields-of w e) ≡ true → Means l (l .to-bytes (fields-of w e)) w e
+bytes-mean l w e fits t = (l .sized _, l .accepted _ t, rw (l .fields-back (fields-of w e) fits) (written w e))
 
 -- the fields of bytes that mean an event, and their bytes
-meant-fields : (l : Layout) (bs : List ℕ) (w : ℕ) (e : Event) → Means l bs w e → fields-of w e ≡ l .of-bytes bs
+pub meant-fields : (l : Layout) (bs : List ℕ) (w : ℕ) (e : Event) → Means l bs w e → fields-of w e ≡ l .of-bytes bs
 meant-fields l bs w e m = taken-kept (l .of-bytes bs) w e (m .2)
 
-meant-bytes : (l : Layout) (bs : List ℕ) (w : ℕ) (e : Event) → Bytes bs → Means l bs w e → l .to-bytes (fields-of w e) ≡ bs
+pub meant-bytes : (l : Layout) (bs : List ℕ) (w : ℕ) (e : Event) → Bytes bs → Means l bs w e → l .to-bytes (fields-of w e) ≡ bs
 meant-bytes l bs w e h m = ap (l .to-bytes) (meant-fields l bs w e m) ∙ l .bytes-back bs h (m .0) (m .1)
 
 pub layout-reads-written : LayoutReadsWritten
-layout-reads-written l w e buf h fits t = rw (front l w e buf h) (told l w e fits t)
+layout-reads-written l w e buf h fits t = rw (front l w e buf h) (bytes-mean l w e fits t)
 
 pub layout-writes-read : LayoutWritesRead
 layout-writes-read l bs w e buf h m long = front l w e buf long ∙ meant-bytes l bs w e h m
@@ -220,7 +220,7 @@ layout-one-record l bs cs w e hb hc p q = sym (meant-bytes l bs w e hb p) ∙ me
 pub layout-turned : LayoutTurned
 layout-turned l k bs w e h m t =
     let f = meant-fields l bs w e m in
-    (told k w e (subst FieldsFit (sym f) (l .fits bs h)) t, ap (l .takes) f ∙ l .took bs (m .1), meant-bytes l bs w e h m)
+    (bytes-mean k w e (subst FieldsFit (sym f) (l .fits bs h)) t, ap (l .takes) f ∙ l .took bs (m .1), meant-bytes l bs w e h m)
 
 pub layout-keeps-rest : LayoutKeepsRest
 layout-keeps-rest l w e buf = (length-kept l w e buf _ refl, rest l w e buf _ refl)
