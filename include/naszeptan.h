@@ -33,7 +33,7 @@ extern "C" {
 /* The version of the rules that this header was written for: the model's
  * version in the upper 16 bits, the change requests that have landed in the
  * lower. naszeptan_version() gives the archive's. */
-#define NASZEPTAN_VERSION UINT32_C(0x00040004)
+#define NASZEPTAN_VERSION UINT32_C(0x00040005)
 
 /* Sizes. */
 #define NASZEPTAN_THREADS 4        /* thread records of a machine */

@@ -12,6 +12,7 @@ use tape::Read;
 use tape::writer;
 
 // The number by which a tape is refused, with the index of its record; or 0 with the number of records.
+#[repr(C)]
 pub struct Converted {
     pub answer: u8,
     pub index: usize,

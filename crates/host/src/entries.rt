@@ -5,7 +5,7 @@ ghost use Prim.Native.Nat.{ℕ};
 ghost use Rattle.machine.specs.Machine.{fresh};
 ghost use Rattle.machine.specs.Valid.{first-of};
 ghost use Rattle.crossing.specs.Crossing.{raw-machine};
-ghost use Rattle.host.specs.Host.{version, number, outcome, step, run, read, write-answer, write};
+ghost use Rattle.host.specs.Host.{version, number, outcome, step, run, record-of, read, write-answer, write};
 ghost use Rattle.host.specs.Inner.{lone};
 use crate::RawDone;
 use crate::RawEnded;
@@ -133,12 +133,10 @@ pub extern "C" fn naszeptan_run(m: RawMachine, mem: &mut [u64], tape: &[u8]) -> 
     }
 }
 
-// One record as fields.
-#[no_mangle]
-pub extern "C" fn naszeptan_read(bytes: &[u8]) -> RawRecord
-    ensures { λ r. ⌜ r ≡ read (now (bytes .entry)) ⌝ }
+// A reader's answer: a record's fields, or a number.
+pub fn record_of(found: Read) -> RawRecord
+    ensures { λ r. ⌜ r ≡ record-of found ⌝ }
 {
-    let found = tape::reader::read(bytes);
     match found {
         Read::Record { thread, event } => RawRecord {
             answer: answer::DONE,
@@ -158,6 +156,14 @@ pub extern "C" fn naszeptan_read(bytes: &[u8]) -> RawRecord
             },
         },
     }
+}
+
+// One record as fields.
+#[no_mangle]
+pub extern "C" fn naszeptan_read(bytes: &[u8]) -> RawRecord
+    ensures { λ r. ⌜ r ≡ read (now (bytes .entry)) ⌝ }
+{
+    record_of(tape::reader::read(bytes))
 }
 
 // Fields as one record.

@@ -1,4 +1,5 @@
 // The entry points for C and Rust hosts (include/naszeptan.h). A machine crosses by value as plain numbers, so any bits may be handed in.
+pub mod editions_two;
 pub mod entries;
 pub mod failed;
 
@@ -6,7 +7,7 @@ use crossing::RawMachine;
 use event::Fields;
 
 // The version of the rules: the model's version above, the landed change requests below.
-pub const VERSION: u32 = 0x0004_0004;
+pub const VERSION: u32 = 0x0004_0005;
 
 // A step's answer, the threads that failed in it (rule H8: bit v for thread v), and the machine after it.
 #[repr(C)]

@@ -169,6 +169,7 @@ turned-at d tape (suc n) g k h = go (ltb k n) refl (turned-at d tape n (λ i j. 
   where
     l : length (all-turned d tape n) ≡ record-size * n
     l = length-all-turned d tape n (λ i j. g i (omega arith))
+
     go : (b : Bool) → ltb k n ≡ b → (k < n → record-at (all-turned d tape n) k ≡ turned d (record-at tape k))
         → record-at (all-turned d tape n ++ turned d (record-at tape n)) k ≡ turned d (record-at tape k)
     go true p before = let q = ltb-true k n p in record-front (all-turned d tape n) _ k (omega (arith, l)) ∙ before q
@@ -261,17 +262,16 @@ there-and-back d tape buf back h z long =
     let f = left-front d tape buf z in
     let none = none-bad (other d) a n 0 (from-0 (λ i. editions.number (other d) (record-at a i) ≡ 0) n (good-back d tape h n (q .good))) in
     let told : convert-answer (other d) a back ≡ converted 0 n =
-        simp (l, eq-eqb (length tape % record-size) 0 (q .whole), le-ltb (length back) (length tape) long) (none ∙ ap (converted 0) (zero-add n)) in
+    simp (l, eq-eqb (length tape % record-size) 0 (q .whole), le-ltb (length back) (length tape) long) (none ∙ ap (converted 0) (zero-add n)) in
     let w = q .whole in
-    let whole : record-size * n ≡ length tape = omega (arith, w) in
-    (
+    let whole : record-size * n ≡ length tape = omega (arith, w) in (
       ap (λ (x : List ℕ). convert-answer (other d) x back) f ∙ told,
       ap (λ (x : List ℕ). take (length tape) (convert (other d) x back)) f
-      ∙ ap (λ (i : ℕ). take i (convert (other d) a back)) (sym l)
-      ∙ left-front (other d) a back (ap (λ (x : Converted). x .answer) told)
-      ∙ ap (λ (i : ℕ). all-turned (other d) a (i / record-size)) l
-      ∙ first-back d tape h n (q .good) n (omega arith)
-      ∙ take-all (record-size * n) tape (omega arith),
+          ∙ ap (λ (i : ℕ). take i (convert (other d) a back)) (sym l)
+          ∙ left-front (other d) a back (ap (λ (x : Converted). x .answer) told)
+          ∙ ap (λ (i : ℕ). all-turned (other d) a (i / record-size)) l
+          ∙ first-back d tape h n (q .good) n (omega arith)
+          ∙ take-all (record-size * n) tape (omega arith),
     )
 
 -- ---- a tape of the other edition
@@ -291,12 +291,11 @@ pub other-refused : OtherRefused
 unfolding convert-answer editions.number
 other-refused d tape buf b pos whole =
     let seven = other-number d (record-at tape 0) (length-take-le record-size tape (omega (arith, whole, pos))) (begins-first (other d) tape b) in
-    let n : editions.number d (record-at tape 0) ≡ 7 = ap (turned-number d) seven in
-    (
+    let n : editions.number d (record-at tape 0) ≡ 7 = ap (turned-number d) seven in (
       ap number seven,
       λ long.
-        simp (eq-eqb (length tape % record-size) 0 whole, le-ltb (length buf) (length tape) long)
-        (bad-here d tape 0 (length tape / record-size) (omega (arith, whole, pos)) (λ z. let o : _≡_ {A = ℕ} 7 0 = sym n ∙ z in omega arith) ∙ ap (λ (i : ℕ). converted i 0) n),
+          simp (eq-eqb (length tape % record-size) 0 whole, le-ltb (length buf) (length tape) long)
+          (bad-here d tape 0 (length tape / record-size) (omega (arith, whole, pos)) (λ z. let o : _≡_ {A = ℕ} 7 0 = sym n ∙ z in omega arith) ∙ ap (λ (i : ℕ). converted i 0) n),
     )
 
 -- ---- a converted tape that is run
@@ -331,4 +330,4 @@ replays m mem tape buf h z =
     (λ i lt. ap three.read (turned-at Two tape n (q .good) i lt) ∙ turned-same Two (record-at tape i) (record-bytes-fit tape i h) (q .good i lt))) in
     ap (run m mem) (left-front Two tape buf z)
     ∙ simp (l, eq-eqb (length tape % record-size) 0 (q .whole), first-of-0 (machine-number m (length mem)))
-      (ap (λ (rs : List Read). cond (eqb (machine-number m (length mem)) 0) (play rs 0 m mem) (result (machine-number m (length mem)) 0 m mem [])) same)
+    (ap (λ (rs : List Read). cond (eqb (machine-number m (length mem)) 0) (play rs 0 m mem) (result (machine-number m (length mem)) 0 m mem [])) same)
