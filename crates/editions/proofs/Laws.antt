@@ -18,10 +18,9 @@ use Rattle.tape.specs.declared.Read.{Read}
 use Rattle.tape.specs.declared.Read.the-variants.{Record, Refused}
 use Rattle.editions.specs.Two as two
 use Rattle.editions.specs.Two.{last-thread, last-kind}
-use Rattle.editions.specs.Editions.{other, read, bytes, turned-number, number, turned-bytes, turned, converted, first-bad, all-turned}
+use Rattle.editions.specs.Editions.{other, read, bytes, turned-number, number, turned-bytes, turned, all-turned}
 use Rattle.editions.specs.declared.Edition.{Edition}
 use Rattle.editions.specs.declared.Edition.the-variants.{Two, Three}
-use Rattle.editions.specs.declared.converter.Converted.{Converted}
 
 -- a record of edition two of the right length, thread and kind is read by its kind
 pub begun-right : (bs : List ℕ) → length bs ≡ record-size → byte bs 0 ≤ last-thread → byte bs 1 ≤ last-kind
@@ -61,53 +60,6 @@ record-of d bs z = go (read d bs) (read-told d bs) refl z
     go : (r : Read) → Told r → read d bs ≡ r → turned-number d r ≡ 0 → (w : ℕ) × (e : Event) × (read d bs ≡ Record w e)
     go (Record w e) t p q = (w, e, p)
     go (Refused n) t p q = absurd (t q)
-
--- ---- the first bad record
-
-module _ (d : Edition) (tape : List ℕ) where
-  pub bad-none : (k n : ℕ) → n ≤ 0 → first-bad d tape k n ≡ converted 0 k
-  unfolding first-bad
-  bad-none k zero h = refl
-  bad-none k (suc n) h = absurd (omega arith)
-
-  pub bad-here : (k n : ℕ) → 0 < n → (number d (record-at tape k) ≡ 0 → ⊥) → first-bad d tape k n ≡ converted (number d (record-at tape k)) k
-  unfolding first-bad
-  bad-here k zero h p = absurd (omega arith)
-  bad-here k (suc n) h p = simp (ne-eqb (number d (record-at tape k)) 0 p)
-
-  pub bad-later : (k n : ℕ) → 0 < n → number d (record-at tape k) ≡ 0 → first-bad d tape k n ≡ first-bad d tape (k + 1) (n - 1)
-  unfolding first-bad
-  bad-later k zero h p = absurd (omega arith)
-  bad-later k (suc n) h p = let e : n ≡ suc n - 1 = omega arith in simp (eq-eqb (number d (record-at tape k)) 0 p) (ap (first-bad d tape (k + 1)) e)
-
-  -- where none is bad each can be turned
-  all-good : (n k i : ℕ) → first-bad d tape k n .answer ≡ 0 → i < n → number d (record-at tape (k + i)) ≡ 0
-  unfolding first-bad
-  all-good zero k i z h = absurd (omega arith)
-  all-good (suc n) k i z h = go (eqb (number d (record-at tape k)) 0) refl (λ q j g. all-good n (k + 1) j q g) i h
-    where
-      go : (b : Bool) → eqb (number d (record-at tape k)) 0 ≡ b
-          → (first-bad d tape (k + 1) n .answer ≡ 0 → (j : ℕ) → j < n → number d (record-at tape (k + 1 + j)) ≡ 0)
-          → (j : ℕ) → j < suc n → number d (record-at tape (k + j)) ≡ 0
-      go true p rest zero g = let e : k + 0 ≡ k = omega arith in ap (λ (m : ℕ). number d (record-at tape m)) e ∙ eqb-true _ 0 p
-      go true p rest (suc j) g =
-          let e : k + suc j ≡ k + 1 + j = omega arith in
-          ap (λ (m : ℕ). number d (record-at tape m)) e ∙ rest (simp p at z) j (omega arith)
-      go false p rest j g = absurd (eqb-false _ 0 p (simp p at z))
-
-  pub each-good : (n i : ℕ) → first-bad d tape 0 n .answer ≡ 0 → i < n → number d (record-at tape i) ≡ 0
-  each-good n i z h = let e : i ≡ 0 + i = omega arith in ap (λ (m : ℕ). number d (record-at tape m)) e ∙ all-good n 0 i z h
-
-  -- and the other way
-  pub none-bad : (n k : ℕ) → ((i : ℕ) → i < n → number d (record-at tape (k + i)) ≡ 0) → first-bad d tape k n ≡ converted 0 (k + n)
-  unfolding first-bad
-  none-bad zero k g = let e : k ≡ k + 0 = omega arith in ap (converted 0) e
-  none-bad (suc n) k g =
-      let a : k + 0 ≡ k = omega arith in
-      let p : number d (record-at tape k) ≡ 0 = sym (ap (λ (m : ℕ). number d (record-at tape m)) a) ∙ g 0 (omega arith) in
-      let e : k + 1 + n ≡ k + suc n = omega arith in
-      simp (eq-eqb (number d (record-at tape k)) 0 p)
-      (none-bad n (k + 1) (λ i h. let b : k + 1 + i ≡ k + suc i = omega arith in ap (λ (m : ℕ). number d (record-at tape m)) b ∙ g (suc i) (omega arith)) ∙ ap (converted 0) e)
 
 -- ---- records turned
 

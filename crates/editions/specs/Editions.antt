@@ -1,5 +1,5 @@
 -- The reader, the writer and the converter of an edition that the caller names (rules T8, T11, T12).
-use Prim.Native.Nat.{ℕ, zero, suc, _+_, _/_, _%_}
+use Prim.Native.Nat.{ℕ, zero, suc, _/_, _%_}
 use mathlib.Core.Bool.{Bool, not, cond}
 use mathlib.Core.List.{List, [], _++_}
 use lib.Dec.{eqb, ltb}
@@ -11,12 +11,13 @@ use Rattle.event.specs.declared.Event.{Event}
 use Rattle.event.specs.declared.Fields.{Fields}
 use Rattle.tape.specs.Tape as three
 use Rattle.tape.specs.Tape.{record-size, record-at}
+use Rattle.tape.specs.FirstBad.{found, first-bad}
+use Rattle.tape.specs.declared.Found.{Found}
 use Rattle.tape.specs.declared.Read.{Read}
 use Rattle.tape.specs.declared.Read.the-variants.{Record, Refused}
 use Rattle.editions.specs.Two as two
 use Rattle.editions.specs.declared.Edition.{Edition}
 use Rattle.editions.specs.declared.Edition.the-variants.{Two, Three}
-use Rattle.editions.specs.declared.converter.Converted.{Converted}
 
 abbrev pub other : Edition → Edition
 other Two = Three
@@ -58,25 +59,17 @@ turned-bytes d (Refused n) = []
 unfoldable pub turned : Edition → List ℕ → List ℕ
 turned d bs = turned-bytes d (read d bs)
 
-abbrev pub converted : ℕ → ℕ → Converted
-converted n k = record { answer = n; index = k }
-
--- the first of n records from record k on that cannot be had in the other edition, with its number; or 0 and the record behind them
-unfoldable pub first-bad : Edition → List ℕ → ℕ → ℕ → Converted
-first-bad d tape k zero = converted answer.done k
-first-bad d tape k (suc n) = cond (eqb (number d (record-at tape k)) 0) (first-bad d tape (k + 1) n) (converted (number d (record-at tape k)) k)
-
 -- the first n records in the other edition
 unfoldable pub all-turned : Edition → List ℕ → ℕ → List ℕ
 all-turned d tape zero = []
 all-turned d tape (suc n) = all-turned d tape n ++ turned d (record-at tape n)
 
 -- the converter: 6 with the number of whole records, 10 with 0, the first bad record, or 0 with the number of records
-unfoldable pub convert-answer : Edition → List ℕ → List ℕ → Converted
+unfoldable pub convert-answer : Edition → List ℕ → List ℕ → Found
 convert-answer d tape buf =
-    cond (not (eqb (length tape % record-size) 0)) (converted answer.tape-length (length tape / record-size))
-    (cond (ltb (length buf) (length tape)) (converted answer.short-buffer 0)
-    (first-bad d tape 0 (length tape / record-size)))
+    cond (not (eqb (length tape % record-size) 0)) (found answer.tape-length (length tape / record-size))
+    (cond (ltb (length buf) (length tape)) (found answer.short-buffer 0)
+    (first-bad (number d) tape 0 (length tape / record-size)))
 
 -- the second buffer: as it was, or with all records in its first bytes
 unfoldable pub convert : Edition → List ℕ → List ℕ → List ℕ

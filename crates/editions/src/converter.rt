@@ -4,19 +4,14 @@ ghost use Prim.Native.Nat.{_+_, _/_, _≤_};
 ghost use lib.ListN.{length};
 ghost use lib.Seq.{sets};
 ghost use Rattle.tape.specs.Tape.{record-size};
-ghost use Rattle.editions.specs.Editions.{number, turned, first-bad, all-turned, convert-answer, convert};
+ghost use Rattle.tape.specs.FirstBad.{first-bad};
+ghost use Rattle.editions.specs.Editions.{number, turned, all-turned, convert-answer, convert};
 use crate::Edition;
 use base::answer;
+use tape::Found;
 use tape::RECORD_SIZE;
 use tape::Read;
 use tape::writer;
-
-// The number by which a tape is refused, with the index of its record; or 0 with the number of records.
-#[repr(C)]
-pub struct Converted {
-    pub answer: u8,
-    pub index: usize,
-}
 
 // The number of a record that cannot be had in the other edition, or 0.
 fn number(d: Edition, s: &[u8]) -> u8
@@ -30,8 +25,8 @@ fn number(d: Edition, s: &[u8]) -> u8
 }
 
 // The first such record of a tape.
-fn first_bad(d: Edition, tape: &[u8]) -> Converted
-    ensures { λ r. ⌜ r ≡ first-bad d (now (tape .entry)) 0 (length (now (tape .entry)) / record-size) ⌝ }
+fn first_bad(d: Edition, tape: &[u8]) -> Found
+    ensures { λ r. ⌜ r ≡ first-bad (number d) (now (tape .entry)) 0 (length (now (tape .entry)) / record-size) ⌝ }
 {
     let n = tape.len() / RECORD_SIZE;
     let mut k: usize = 0;
@@ -40,14 +35,14 @@ fn first_bad(d: Edition, tape: &[u8]) -> Converted
         let end = at + RECORD_SIZE;
         let a = number(d, &tape[at..end]);
         if a != answer::DONE {
-            return Converted {
+            return Found {
                 answer: a,
                 index: k,
             };
         }
         k += 1;
     }
-    Converted {
+    Found {
         answer: answer::DONE,
         index: k,
     }
@@ -69,7 +64,7 @@ fn turn(d: Edition, s: &[u8], buf: &mut [u8], at: usize)
 // All records of a tape that has no bad one.
 fn turn_all(d: Edition, tape: &[u8], buf: &mut [u8])
     requires { ⌜ length (now tape) ≤ length (now buf) ⌝ }
-    requires { ⌜ first-bad d (now tape) 0 (length (now tape) / record-size) .answer ≡ 0 ⌝ }
+    requires { ⌜ first-bad (number d) (now tape) 0 (length (now tape) / record-size) .answer ≡ 0 ⌝ }
     ensures { λ r. ⌜ now (buf .exit) ≡ sets (now (buf .entry)) 0 (all-turned d (now (tape .entry)) (length (now (tape .entry)) / record-size)) ⌝ }
 {
     let n = tape.len() / RECORD_SIZE;
@@ -82,19 +77,19 @@ fn turn_all(d: Edition, tape: &[u8], buf: &mut [u8])
     }
 }
 
-pub fn convert(d: Edition, tape: &[u8], buf: &mut [u8]) -> Converted
+pub fn convert(d: Edition, tape: &[u8], buf: &mut [u8]) -> Found
     ensures { λ r. ⌜ r ≡ convert-answer d (now (tape .entry)) (now (buf .entry)) ⌝ }
     ensures { λ r. ⌜ now (buf .exit) ≡ convert d (now (tape .entry)) (now (buf .entry)) ⌝ }
 {
     let n = tape.len();
     if n % RECORD_SIZE != 0 {
-        return Converted {
+        return Found {
             answer: answer::TAPE_LENGTH,
             index: n / RECORD_SIZE,
         };
     }
     if buf.len() < n {
-        return Converted {
+        return Found {
             answer: answer::SHORT_BUFFER,
             index: 0,
         };

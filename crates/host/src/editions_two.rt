@@ -7,8 +7,8 @@ use crate::RawRecord;
 use crate::entries;
 use editions::Edition;
 use editions::converter;
-use editions::converter::Converted;
 use event::Fields;
+use tape::Found;
 use tape::Read;
 
 // One record as fields.
@@ -34,7 +34,7 @@ pub extern "C" fn naszeptan_write_two(e: Fields, buf: &mut [u8]) -> u8
 
 // A tape of edition two as one of edition three, and back.
 #[no_mangle]
-pub extern "C" fn naszeptan_two_to_three(tape: &[u8], buf: &mut [u8]) -> Converted
+pub extern "C" fn naszeptan_two_to_three(tape: &[u8], buf: &mut [u8]) -> Found
     ensures { λ r. ⌜ r ≡ convert-answer Two (now (tape .entry)) (now (buf .entry)) ⌝ }
     ensures { λ r. ⌜ now (buf .exit) ≡ convert Two (now (tape .entry)) (now (buf .entry)) ⌝ }
 {
@@ -42,7 +42,7 @@ pub extern "C" fn naszeptan_two_to_three(tape: &[u8], buf: &mut [u8]) -> Convert
 }
 
 #[no_mangle]
-pub extern "C" fn naszeptan_three_to_two(tape: &[u8], buf: &mut [u8]) -> Converted
+pub extern "C" fn naszeptan_three_to_two(tape: &[u8], buf: &mut [u8]) -> Found
     ensures { λ r. ⌜ r ≡ convert-answer Three (now (tape .entry)) (now (buf .entry)) ⌝ }
     ensures { λ r. ⌜ now (buf .exit) ≡ convert Three (now (tape .entry)) (now (buf .entry)) ⌝ }
 {

@@ -14,17 +14,19 @@ use Rattle.event.specs.Event.{fields-of}
 use Rattle.event.specs.declared.Event.{Event}
 use Rattle.tape.specs.Tape as three
 use Rattle.tape.specs.Tape.{record-size, first-byte, byte, record-at, number}
+use Rattle.tape.specs.FirstBad.{found}
 use Rattle.tape.specs.declared.Read.{Read}
 use Rattle.tape.specs.declared.Read.the-variants.{Record, Refused}
 use Rattle.tape.proofs.Laws.{over-all}
+use Rattle.tape.proofs.FirstBad.{bad-here, each-good, none-bad}
 use Rattle.editions.specs.Two as two
 use Rattle.editions.specs.Two.{last-thread}
 use Rattle.editions.specs.Editions as editions
-use Rattle.editions.specs.Editions.{other, read, bytes, no-record, write-answer, write, turned-number, turned-bytes, turned, converted, first-bad, all-turned, convert-answer, convert}
+use Rattle.editions.specs.Editions.{other, read, bytes, no-record, write-answer, write, turned-number, turned-bytes, turned, all-turned, convert-answer, convert}
 use Rattle.editions.specs.declared.Edition.{Edition}
 use Rattle.editions.specs.declared.Edition.the-variants.{Two, Three}
-use Rattle.editions.specs.declared.converter.Converted.{Converted}
-use Rattle.editions.proofs.Laws.{record-of, bad-here, each-good, none-bad, length-bytes, length-turned, length-all-turned}
+use Rattle.tape.specs.declared.Found.{Found}
+use Rattle.editions.proofs.Laws.{record-of, length-bytes, length-turned, length-all-turned}
 use Rattle.laws_round.specs.Round.{Bytes}
 use Rattle.machine.specs.Valid.{machine-number, first-of}
 use Rattle.machine.specs.declared.Machine.{Machine}
@@ -195,7 +197,7 @@ passed d tape buf z = go (eqb (length tape % record-size) 0) (ltb (length buf) (
     go false b p q = let o : _≡_ {A = ℕ} 6 0 = simp p at z in absurd (omega arith)
     go true true p q = let o : _≡_ {A = ℕ} 10 0 = simp (p, q) at z in absurd (omega arith)
     go true false p q =
-        record { whole = eqb-true _ 0 p; long = ltb-false _ _ q; good = λ i. each-good d tape (length tape / record-size) i (simp (p, q) at z) }
+        record { whole = eqb-true _ 0 p; long = ltb-false _ _ q; good = λ i. each-good (editions.number d) tape (length tape / record-size) i (simp (p, q) at z) }
 
 module _ (d : Edition) (tape buf : List ℕ) (z : convert-answer d tape buf .answer ≡ 0) where
   abbrev all : List ℕ
@@ -260,15 +262,15 @@ there-and-back d tape buf back h z long =
     let a = all d tape buf z in
     let l = all-length d tape buf z in
     let f = left-front d tape buf z in
-    let none = none-bad (other d) a n 0 (from-0 (λ i. editions.number (other d) (record-at a i) ≡ 0) n (good-back d tape h n (q .good))) in
-    let told : convert-answer (other d) a back ≡ converted 0 n =
-    simp (l, eq-eqb (length tape % record-size) 0 (q .whole), le-ltb (length back) (length tape) long) (none ∙ ap (converted 0) (zero-add n)) in
+    let none = none-bad (editions.number (other d)) a n 0 (from-0 (λ i. editions.number (other d) (record-at a i) ≡ 0) n (good-back d tape h n (q .good))) in
+    let told : convert-answer (other d) a back ≡ found 0 n =
+    simp (l, eq-eqb (length tape % record-size) 0 (q .whole), le-ltb (length back) (length tape) long) (none ∙ ap (found 0) (zero-add n)) in
     let w = q .whole in
     let whole : record-size * n ≡ length tape = omega (arith, w) in (
       ap (λ (x : List ℕ). convert-answer (other d) x back) f ∙ told,
       ap (λ (x : List ℕ). take (length tape) (convert (other d) x back)) f
           ∙ ap (λ (i : ℕ). take i (convert (other d) a back)) (sym l)
-          ∙ left-front (other d) a back (ap (λ (x : Converted). x .answer) told)
+          ∙ left-front (other d) a back (ap (λ (x : Found). x .answer) told)
           ∙ ap (λ (i : ℕ). all-turned (other d) a (i / record-size)) l
           ∙ first-back d tape h n (q .good) n (omega arith)
           ∙ take-all (record-size * n) tape (omega arith),
@@ -295,7 +297,7 @@ other-refused d tape buf b pos whole =
       ap number seven,
       λ long.
           simp (eq-eqb (length tape % record-size) 0 whole, le-ltb (length buf) (length tape) long)
-          (bad-here d tape 0 (length tape / record-size) (omega (arith, whole, pos)) (λ z. let o : _≡_ {A = ℕ} 7 0 = sym n ∙ z in omega arith) ∙ ap (λ (i : ℕ). converted i 0) n),
+          (bad-here (editions.number d) tape 0 (length tape / record-size) (omega (arith, whole, pos)) (λ z. let o : _≡_ {A = ℕ} 7 0 = sym n ∙ z in omega arith) ∙ ap (λ (i : ℕ). found i 0) n),
     )
 
 -- ---- a converted tape that is run

@@ -9,10 +9,11 @@ use lib.ListN.{length, take, drop}
 use Rattle.event.specs.Event.{fields-of}
 use Rattle.event.specs.declared.Event.{Event}
 use Rattle.tape.specs.Tape.{record-size, first-byte, byte, record-at, number}
+use Rattle.tape.specs.FirstBad.{found}
 use Rattle.tape.specs.declared.Read.{Read}
 use Rattle.tape.specs.declared.Read.the-variants.{Record}
 use Rattle.editions.specs.Two.{last-thread}
-use Rattle.editions.specs.Editions.{other, read, write-answer, write, converted, convert-answer, convert}
+use Rattle.editions.specs.Editions.{other, read, write-answer, write, convert-answer, convert}
 use Rattle.editions.specs.declared.Edition.{Edition}
 use Rattle.editions.specs.declared.Edition.the-variants.{Two, Three}
 use Rattle.laws_round.specs.Round.{FieldsFit, Bytes}
@@ -63,7 +64,7 @@ SameEvents =
 abbrev pub ThereAndBack : Type 0
 ThereAndBack =
     (d : Edition) (tape buf back : List ℕ) → Bytes tape → convert-answer d tape buf .answer ≡ 0 → length tape ≤ length back
-    → (convert-answer (other d) (take (length tape) (convert d tape buf)) back ≡ converted 0 (length tape / record-size))
+    → (convert-answer (other d) (take (length tape) (convert d tape buf)) back ≡ found 0 (length tape / record-size))
     × (take (length tape) (convert (other d) (take (length tape) (convert d tape buf)) back) ≡ tape)
 
 -- how a tape of an edition begins
@@ -75,7 +76,7 @@ Begins Three tape = byte tape 0 ≡ first-byte
 abbrev pub OtherRefused : Type 0
 OtherRefused =
     (d : Edition) (tape buf : List ℕ) → Begins (other d) tape → 0 < length tape → length tape % record-size ≡ 0
-    → (number (read d (record-at tape 0)) ≡ 7) × (length tape ≤ length buf → convert-answer d tape buf ≡ converted 7 0)
+    → (number (read d (record-at tape 0)) ≡ 7) × (length tape ≤ length buf → convert-answer d tape buf ≡ found 7 0)
 
 -- what a reader answers for n records of a tape, from record k on
 unfoldable pub reads : Edition → List ℕ → ℕ → ℕ → List Read

@@ -18,6 +18,13 @@ pub enum Read {
     Refused(u8),
 }
 
+// The first record of a tape that is refused, by its number and its index; or 0 and the number of records.
+#[repr(C)]
+pub struct Found {
+    pub answer: u8,
+    pub index: usize,
+}
+
 // The number of the reader's answer: 0 for a record.
 pub fn number(r: Read) -> u8
     ensures { λ n. ⌜ n ≡ number r ⌝ }

@@ -9,7 +9,8 @@ use mathlib.Core.Bool.{true, false, cond}
 use Prim.Native.Nat.{ℕ, _/_, _%_, _≤_}
 use lib.Seq.{sets}
 use Rattle.tape.specs.Tape.{record-size}
-use Rattle.editions.specs.Editions.{converted, first-bad, all-turned, convert-answer, convert}
+use Rattle.tape.specs.FirstBad.{first-bad}
+use Rattle.editions.specs.Editions.{number, all-turned, convert-answer, convert}
 use Rattle.editions.specs.declared.Edition.{Edition}
 use borrow.Author.Needs.{needs}
 use Rattle.editions.proofs.converter.convert.Statement.{statement}
@@ -17,17 +18,17 @@ use Rattle.editions.proofs.converter.convert.Tie as tie
 
 -- what is answered once the whole has passed, and what is left then
 module _ (d : Edition) (tape buf : List ℕ) (whole : length tape % record-size ≡ 0) (long : length tape ≤ length buf) where
-  first : convert-answer d tape buf ≡ first-bad d tape 0 (length tape / record-size)
+  first : convert-answer d tape buf ≡ first-bad (number d) tape 0 (length tape / record-size)
   unfolding convert-answer
   first = simp (eq-eqb (length tape % record-size) 0 whole, le-ltb (length buf) (length tape) long)
 
-  refused : (first-bad d tape 0 (length tape / record-size) .answer ≡ 0 → ⊥) → buf ≡ convert d tape buf
+  refused : (first-bad (number d) tape 0 (length tape / record-size) .answer ≡ 0 → ⊥) → buf ≡ convert d tape buf
   unfolding convert
-  refused h = simp (first, ne-eqb (first-bad d tape 0 (length tape / record-size) .answer) 0 h)
+  refused h = simp (first, ne-eqb (first-bad (number d) tape 0 (length tape / record-size) .answer) 0 h)
 
-  done : first-bad d tape 0 (length tape / record-size) .answer ≡ 0 → sets buf 0 (all-turned d tape (length tape / record-size)) ≡ convert d tape buf
+  done : first-bad (number d) tape 0 (length tape / record-size) .answer ≡ 0 → sets buf 0 (all-turned d tape (length tape / record-size)) ≡ convert d tape buf
   unfolding convert
-  done z = simp (first, eq-eqb (first-bad d tape 0 (length tape / record-size) .answer) 0 z)
+  done z = simp (first, eq-eqb (first-bad (number d) tape 0 (length tape / record-size) .answer) 0 z)
 
 returns : tie.Need-returns
 unfolding convert-answer convert

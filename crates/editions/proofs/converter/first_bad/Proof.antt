@@ -6,14 +6,15 @@ use native.Mathlib.Omega.{arith}
 use borrow.Author.Needs.{needs}
 use lib.ListN.{length}
 use Rattle.tape.specs.Tape.{record-at}
+use Rattle.tape.specs.FirstBad.{found, first-bad}
 use Rattle.tape.proofs.Laws.{part-is}
-use Rattle.editions.specs.Editions.{number, converted, first-bad}
-use Rattle.editions.proofs.Laws.{bad-none, bad-here, bad-later}
+use Rattle.tape.proofs.FirstBad.{bad-none, bad-here, bad-later}
+use Rattle.editions.specs.Editions.{number}
 use Rattle.editions.proofs.converter.first_bad.Statement.{statement}
 use Rattle.editions.proofs.converter.first_bad.Tie as tie
 
 abbrev Inv-loop : tie.InvT-loop
-Inv-loop d tape n k₀ k = (k ≤ n) × (first-bad d tape 0 n ≡ first-bad d tape k (n - k))
+Inv-loop d tape n k₀ k = (k ≤ n) × (first-bad (number d) tape 0 n ≡ first-bad (number d) tape k (n - k))
 
 abbrev μ-loop : tie.MeasureT-loop
 μ-loop d tape n k₀ k = n - k
@@ -34,7 +35,7 @@ loop-holds : tie.Need-loop-holds Inv-loop μ-loop
 loop-holds c =
     let n = length (c .before .args .tape .now) / 16 in
     let e : n ≡ n - 0 = omega arith in
-    (omega arith, ap (first-bad _ _ 0) e)
+    (omega arith, ap (first-bad (number (c .before .args .d)) (c .before .args .tape .now) 0) e)
 
 mul-at : tie.Need-mul-at Inv-loop μ-loop
 mul-at c = omega (arith, small (c .before .before))
@@ -60,7 +61,7 @@ returns c =
     let i = g .before .before in
     let l = i .before in
     let a = l .before .before .args in
-    ap (λ (x : ℕ). converted x (l .loop .k)) (judged g) ∙ sym (l .loop .inv .1 ∙ bad-here (a .d) (a .tape .now) (l .loop .k) _ (omega (arith, i .loop-test .taken)) (λ z. c .if1 .taken (judged g ∙ z)))
+    ap (λ (x : ℕ). found x (l .loop .k)) (judged g) ∙ sym (l .loop .inv .1 ∙ bad-here (number (a .d)) (a .tape .now) (l .loop .k) _ (omega (arith, i .loop-test .taken)) (λ z. c .if1 .taken (judged g ∙ z)))
 
 add-k : tie.Need-add-k Inv-loop μ-loop
 add-k c = omega (arith, small (c .before .before .before .before .before))
@@ -77,13 +78,13 @@ loop-again c =
     let n = length (a .tape .now) / 16 in
     let k = l .loop .k in
     let e : n - k - 1 ≡ n - (k + 1) = omega arith in
-    (omega (arith, i .loop-test .taken), l .loop .inv .1 ∙ bad-later (a .d) (a .tape .now) k (n - k) (omega (arith, i .loop-test .taken)) (sym (judged g) ∙ c .if1 .left) ∙ ap (first-bad (a .d) (a .tape .now) (k + 1)) e)
+    (omega (arith, i .loop-test .taken), l .loop .inv .1 ∙ bad-later (number (a .d)) (a .tape .now) k (n - k) (omega (arith, i .loop-test .taken)) (sym (judged g) ∙ c .if1 .left) ∙ ap (first-bad (number (a .d)) (a .tape .now) (k + 1)) e)
 
 returns-2 : tie.Need-returns-2 Inv-loop μ-loop
 returns-2 c =
     let l = c .before in
     let a = l .before .before .args in
-    sym (l .loop .inv .1 ∙ bad-none (a .d) (a .tape .now) (l .loop .k) _ (omega (arith, c .loop-test .left)))
+    sym (l .loop .inv .1 ∙ bad-none (number (a .d)) (a .tape .now) (l .loop .k) _ (omega (arith, c .loop-test .left)))
 
 pub first-bad-spec : {M : Type 1} → statement M
 first-bad-spec =

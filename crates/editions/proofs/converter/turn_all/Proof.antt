@@ -8,9 +8,10 @@ use lib.ListN.{length}
 use lib.Seq.{sets, length-sets}
 use Rattle.tape.specs.Tape.{record-size, record-at}
 use Rattle.tape.proofs.Laws.{part-is}
+use Rattle.tape.proofs.FirstBad.{each-good}
 use Rattle.editions.specs.Editions.{number, turned, all-turned}
 use Rattle.editions.specs.declared.Edition.{Edition}
-use Rattle.editions.proofs.Laws.{each-good, length-all-turned, sets-behind}
+use Rattle.editions.proofs.Laws.{length-all-turned, sets-behind}
 use Rattle.editions.proofs.converter.turn_all.Statement.{statement}
 use Rattle.editions.proofs.converter.turn_all.Tie as tie
 
@@ -84,7 +85,7 @@ loop-again c =
     let same = ap (λ (b : List ℕ). sets b (k * record-size) (turned (a .d) (record-at (a .tape .now) k))) (l .loop .inv .2) in (
       omega (arith, i .loop-test .taken),
       ap length put ∙ length-sets (l .loop .buf) (k * record-size) (turned (a .d) (record-at (a .tape .now) k)) ∙ l .loop .inv .1,
-      put ∙ same ∙ one-more (a .d) (a .tape .now) (a .buf .now) n (λ j. each-good (a .d) (a .tape .now) n j (s .pre .1)) k (i .loop-test .taken),
+      put ∙ same ∙ one-more (a .d) (a .tape .now) (a .buf .now) n (λ j. each-good (number (a .d)) (a .tape .now) n j (s .pre .1)) k (i .loop-test .taken),
     )
 
 same-length : tie.Need-same-length Inv-loop μ-loop

@@ -1,0 +1,55 @@
+-- The first record that has a number: here, later, or none; and what is known of all records where none has one.
+use mathlib.Core.Path.{_≡_, refl, sym, ap, _∙_}
+use mathlib.Core.Bool.{Bool, true, false}
+use mathlib.Core.List.{List}
+use Prim.Native.Nat.{ℕ, zero, suc, _+_, _-_, _<_, _≤_}
+use native.Mathlib.Omega.{arith}
+use lib.Dec.{eqb}
+use borrow.Author.Tests.{eq-eqb, ne-eqb, eqb-true, eqb-false}
+use Rattle.tape.specs.Tape.{record-at}
+use Rattle.tape.specs.FirstBad.{found, first-bad}
+
+module _ (f : List ℕ → ℕ) (tape : List ℕ) where
+  pub bad-none : (k n : ℕ) → n ≤ 0 → first-bad f tape k n ≡ found 0 k
+  unfolding first-bad
+  bad-none k zero h = refl
+  bad-none k (suc n) h = absurd (omega arith)
+
+  pub bad-here : (k n : ℕ) → 0 < n → (f (record-at tape k) ≡ 0 → ⊥) → first-bad f tape k n ≡ found (f (record-at tape k)) k
+  unfolding first-bad
+  bad-here k zero h p = absurd (omega arith)
+  bad-here k (suc n) h p = simp (ne-eqb (f (record-at tape k)) 0 p)
+
+  pub bad-later : (k n : ℕ) → 0 < n → f (record-at tape k) ≡ 0 → first-bad f tape k n ≡ first-bad f tape (k + 1) (n - 1)
+  unfolding first-bad
+  bad-later k zero h p = absurd (omega arith)
+  bad-later k (suc n) h p = let e : n ≡ suc n - 1 = omega arith in simp (eq-eqb (f (record-at tape k)) 0 p) (ap (first-bad f tape (k + 1)) e)
+
+  -- where none is bad each has no number
+  all-good : (n k i : ℕ) → first-bad f tape k n .answer ≡ 0 → i < n → f (record-at tape (k + i)) ≡ 0
+  unfolding first-bad
+  all-good zero k i z h = absurd (omega arith)
+  all-good (suc n) k i z h = go (eqb (f (record-at tape k)) 0) refl (λ q j g. all-good n (k + 1) j q g) i h
+    where
+      go : (b : Bool) → eqb (f (record-at tape k)) 0 ≡ b
+          → (first-bad f tape (k + 1) n .answer ≡ 0 → (j : ℕ) → j < n → f (record-at tape (k + 1 + j)) ≡ 0)
+          → (j : ℕ) → j < suc n → f (record-at tape (k + j)) ≡ 0
+      go true p rest zero g = let e : k + 0 ≡ k = omega arith in ap (λ (m : ℕ). f (record-at tape m)) e ∙ eqb-true _ 0 p
+      go true p rest (suc j) g =
+          let e : k + suc j ≡ k + 1 + j = omega arith in
+          ap (λ (m : ℕ). f (record-at tape m)) e ∙ rest (simp p at z) j (omega arith)
+      go false p rest j g = absurd (eqb-false _ 0 p (simp p at z))
+
+  pub each-good : (n i : ℕ) → first-bad f tape 0 n .answer ≡ 0 → i < n → f (record-at tape i) ≡ 0
+  each-good n i z h = let e : i ≡ 0 + i = omega arith in ap (λ (m : ℕ). f (record-at tape m)) e ∙ all-good n 0 i z h
+
+  -- and the other way
+  pub none-bad : (n k : ℕ) → ((i : ℕ) → i < n → f (record-at tape (k + i)) ≡ 0) → first-bad f tape k n ≡ found 0 (k + n)
+  unfolding first-bad
+  none-bad zero k g = let e : k ≡ k + 0 = omega arith in ap (found 0) e
+  none-bad (suc n) k g =
+      let a : k + 0 ≡ k = omega arith in
+      let p : f (record-at tape k) ≡ 0 = sym (ap (λ (m : ℕ). f (record-at tape m)) a) ∙ g 0 (omega arith) in
+      let e : k + 1 + n ≡ k + suc n = omega arith in
+      simp (eq-eqb (f (record-at tape k)) 0 p)
+      (none-bad n (k + 1) (λ i h. let b : k + 1 + i ≡ k + suc i = omega arith in ap (λ (m : ℕ). f (record-at tape m)) b ∙ g (suc i) (omega arith)) ∙ ap (found 0) e)
