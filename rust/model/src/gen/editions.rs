@@ -54,20 +54,24 @@ pub fn damaged_tape(rng: &mut Rng, edition: Edition, records: usize) -> Vec<u8> 
     tape
 }
 
-/// A record that is mostly refused: by its first byte, its kind, its thread, a
-/// field, or all of it being of the other edition.
+/// A record that is mostly refused: of the other edition, or by its first byte,
+/// its kind, its thread or a field, and now and then by two of them.
 fn damaged_record(rng: &mut Rng, edition: Edition) -> [u8; RECORD] {
+    if rng.one_in(6) {
+        return good_record(rng, edition.other());
+    }
     let mut record = good_record(rng, edition);
-    let any = rng.byte();
-    let above = rng.pick([4, 5, 255, any | 4]);
-    match rng.below(6) {
-        0 => record[0] = rng.pick([0, 3, 4, MARK - 1, MARK, MARK + 1, any]),
-        1 => record[1] = rng.pick([0, 18, 19, 255, any]),
-        // Edition three has its thread here, edition two an operand.
-        2 => record[2] = above,
-        3 => record[2 + rng.below(RECORD - 2)] ^= 1 << rng.below(8),
-        4 => record[12 + rng.below(4)] = above,
-        _ => return good_record(rng, edition.other()),
+    for _ in 0..rng.pick([1, 1, 2]) {
+        let any = rng.byte();
+        let above = rng.pick([4, 5, 255, any | 4]);
+        match rng.below(5) {
+            0 => record[0] = rng.pick([0, 3, 4, MARK - 1, MARK, MARK + 1, any]),
+            1 => record[1] = rng.pick([0, 18, 19, 255, any]),
+            // Edition three has its thread here, edition two an operand.
+            2 => record[2] = above,
+            3 => record[2 + rng.below(RECORD - 2)] ^= 1 << rng.below(8),
+            _ => record[12 + rng.below(4)] = above,
+        }
     }
     record
 }
