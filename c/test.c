@@ -366,8 +366,7 @@ static void records(void) {
 }
 
 /* docs/RULES.md, T5 and T9: std by thread 0 of register 3 to doubleword 17. */
-static const uint8_t three[16] = {0xE3, 0x0D, 0, 0, 3, 0,
-                                  0,    0,    0, 0, 0, 0x11};
+static const uint8_t three[16] = {0xE3, 0x0D, 0, 0, 3, 0, 0, 0, 0, 0, 0, 0x11};
 static const uint8_t two[16] = {0, 0x0D, 0, 3, 0, 0, 0, 0, 0x11};
 
 /* Whether all bytes from one place to another are 0xAA. */
