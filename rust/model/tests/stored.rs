@@ -289,6 +289,18 @@ fn texts_agree_on_what_is_converted() {
     assert_eq!((converted, refused), (2, 2));
 }
 
+/// What the text says of memory: the bytes of SI and of the index are in order.
+#[test]
+fn the_elision_of_edition_two_stores_298() {
+    let path = crates().join("../tapes/edition_two_elision.tape");
+    let two = fs::read(path).expect("the tape");
+    let mut three = vec![0; two.len()];
+    assert_eq!(Edition::Two.convert(&two, &mut three), (0, 9));
+    let (mut m, mut mem) = (Machine::fresh(), vec![0; 4096]);
+    assert_eq!(model::run(&mut m, &mut mem, &three), (0, 9));
+    assert_eq!((mem[272], mem.iter().sum()), (298, 298));
+}
+
 /// Rule T13: the same bytes as the wrong edition, both ways.
 #[test]
 fn tapes_are_refused_as_the_wrong_edition() {

@@ -160,6 +160,11 @@ fn edition_two() {
 #[test]
 fn edition_two_elision() {
     hold_converted("edition_two_elision");
+    let three = tape("edition_two_elision").convert(Edition::Two).unwrap();
+    let mut memory = vec![0; MEMORY];
+    let ended = Machine::fresh().run(&mut memory, three);
+    assert_eq!(ended.answer, Answer::Done);
+    assert_eq!((memory[272], memory.iter().sum()), (298, 298));
 }
 
 #[test]
