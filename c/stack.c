@@ -13,7 +13,7 @@ enum { PROMISED = 256 * 1024, SIZE = 1024 * 1024, FILL = 0xA5, RECORDS = 64 };
 
 static unsigned char stack[SIZE];
 static uint64_t memory[NASZEPTAN_MEMORY];
-static uint8_t tape[RECORDS * NASZEPTAN_RECORD_SIZE];
+static uint8_t tape[RECORDS * NASZEPTAN_RECORD_SIZE], two[sizeof tape];
 static struct naszeptan_machine machine;
 static ucontext_t back, there;
 static volatile unsigned answer;
@@ -50,6 +50,14 @@ static void reads(void) {
   answer = naszeptan_read(tape, NASZEPTAN_RECORD_SIZE).answer;
 }
 
+static void to_two(void) {
+  answer = naszeptan_three_to_two(tape, sizeof tape, two, sizeof two).answer;
+}
+
+static void to_three(void) {
+  answer = naszeptan_two_to_three(two, sizeof two, tape, sizeof tape).answer;
+}
+
 /* The bytes of stack that a call used. */
 static size_t used_by(void (*call)(void)) {
   memset(stack, FILL, sizeof stack);
@@ -78,7 +86,9 @@ int main(void) {
   machine = naszeptan_fresh();
   fill_tape();
   return held("nothing", nothing) && held("valid", valid) &&
-                 held("step", step) && held("run", run) && held("read", reads)
+                 held("step", step) && held("run", run) &&
+                 held("read", reads) && held("three to two", to_two) &&
+                 held("two to three", to_three)
              ? 0
              : 1;
 }

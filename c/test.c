@@ -18,6 +18,8 @@ _Static_assert(sizeof(struct naszeptan_done) == 6704, "done");
 _Static_assert(offsetof(struct naszeptan_done, failed) == 1, "failed");
 _Static_assert(sizeof(struct naszeptan_ended) == 6712, "ended");
 _Static_assert(sizeof(struct naszeptan_record) == 20, "record");
+_Static_assert(sizeof(struct naszeptan_converted) == 16, "converted");
+_Static_assert(offsetof(struct naszeptan_converted, index) == 8, "index");
 
 static int checks;
 
@@ -363,6 +365,126 @@ static void records(void) {
   CHECK(naszeptan_read(buffer, 16).answer == NASZEPTAN_BAD_FIRST_BYTE);
 }
 
+/* docs/RULES.md, T5 and T9: std by thread 0 of register 3 to doubleword 17. */
+static const uint8_t three[16] = {0xE3, 0x0D, 0, 0, 3, 0, 0, 0, 0, 0, 0, 0x11};
+static const uint8_t two[16] = {0, 0x0D, 0, 3, 0, 0, 0, 0, 0x11};
+
+/* Whether all bytes from one place to another are 0xAA. */
+static int kept(const uint8_t *buffer, size_t from, size_t to) {
+  while (from < to && buffer[from] == 0xAA)
+    from++;
+  return from == to;
+}
+
+/* The reader of edition two refuses by the number, with an event of zeros. */
+static void not_read(const uint8_t *record, size_t bytes, uint8_t number) {
+  struct naszeptan_record r = naszeptan_read_two(record, bytes);
+  struct naszeptan_event e = r.event;
+  CHECK(r.answer == number);
+  CHECK(e.kind == 0 && e.thread == 0 && e.x == 0 && e.ra == 0 && e.rb == 0);
+  CHECK(e.flags == 0 && e.index == 0 && e.si == 0);
+}
+
+static void reader_of_edition_two(void) {
+  uint8_t record[17] = {0};
+  struct naszeptan_record r = naszeptan_read_two(two, 16);
+  CHECK(r.answer == NASZEPTAN_DONE && r.event.kind == NASZEPTAN_STD);
+  CHECK(r.event.thread == 0 && r.event.ra == 3 && r.event.index == 17);
+  /* The lowest byte comes first. */
+  static const uint8_t addi[16] = {3, 14, 1, 2, 0, 0, 0x2A, 1};
+  r = naszeptan_read_two(addi, 16);
+  CHECK(r.answer == NASZEPTAN_DONE && r.event.thread == 3);
+  CHECK(r.event.x == 1 && r.event.ra == 2 && r.event.si == 0x012A);
+  /* 6, 7, 8, 9: the first that applies. */
+  memcpy(record, two, 16);
+  record[15] = 1;
+  not_read(record, 16, NASZEPTAN_FIELD);
+  record[1] = 18;
+  not_read(record, 16, NASZEPTAN_NO_KIND);
+  record[0] = 4;
+  not_read(record, 16, NASZEPTAN_BAD_FIRST_BYTE);
+  not_read(record, 15, NASZEPTAN_TAPE_LENGTH);
+  not_read(record, 17, NASZEPTAN_TAPE_LENGTH);
+  not_read(NULL, 0, NASZEPTAN_TAPE_LENGTH);
+  not_read(three, 16, NASZEPTAN_BAD_FIRST_BYTE);
+  CHECK(naszeptan_read(two, 16).answer == NASZEPTAN_BAD_FIRST_BYTE);
+}
+
+static void writer_of_edition_two(void) {
+  uint8_t buffer[17];
+  struct naszeptan_event e = store(0, 3, 17), far = e, unused, none;
+  far.thread = 4;
+  unused = far;
+  unused.rb = 1;
+  none = unused;
+  none.kind = 18;
+  memset(buffer, 0xAA, sizeof buffer);
+  for (size_t bytes = 0; bytes <= 17; bytes++) {
+    CHECK(naszeptan_write_two(none, buffer, bytes) == NASZEPTAN_NO_KIND);
+    CHECK(naszeptan_write_two(unused, buffer, bytes) == NASZEPTAN_FIELD);
+    CHECK(naszeptan_write_two(far, buffer, bytes) == NASZEPTAN_NO_THREAD);
+    CHECK(bytes >= 16 ||
+          naszeptan_write_two(e, buffer, bytes) == NASZEPTAN_SHORT_BUFFER);
+    CHECK(kept(buffer, 0, 17));
+  }
+  CHECK(naszeptan_write_two(e, buffer, 17) == NASZEPTAN_DONE);
+  CHECK(memcmp(buffer, two, 16) == 0 && kept(buffer, 16, 17));
+}
+
+typedef struct naszeptan_converted converter(const uint8_t *, size_t, uint8_t *,
+                                             size_t);
+
+/* The converter refuses by the number and the index, and the buffer stays. */
+static void not_converted(converter *convert, const uint8_t *tape, size_t bytes,
+                          size_t room, uint8_t number, size_t index) {
+  uint8_t buffer[40];
+  memset(buffer, 0xAA, sizeof buffer);
+  struct naszeptan_converted c = convert(tape, bytes, buffer, room);
+  CHECK(c.answer == number && c.index == index);
+  CHECK(kept(buffer, 0, sizeof buffer));
+}
+
+/* A converter from the one record to the other. */
+static void converts(converter *convert, const uint8_t *from,
+                     const uint8_t *to) {
+  uint8_t tape[32], buffer[40];
+  memcpy(tape, from, 16);
+  memcpy(tape + 16, from, 16);
+  memset(buffer, 0xAA, sizeof buffer);
+  struct naszeptan_converted c = convert(tape, 32, buffer, 40);
+  CHECK(c.answer == NASZEPTAN_DONE && c.index == 2);
+  CHECK(memcmp(buffer, to, 16) == 0 && memcmp(buffer + 16, to, 16) == 0);
+  CHECK(kept(buffer, 32, 40));
+  c = convert(NULL, 0, NULL, 0);
+  CHECK(c.answer == NASZEPTAN_DONE && c.index == 0);
+  /* The wrong edition, at the first record and at the second. */
+  not_converted(convert, to, 16, 40, NASZEPTAN_BAD_FIRST_BYTE, 0);
+  memcpy(tape + 16, to, 16);
+  not_converted(convert, tape, 32, 40, NASZEPTAN_BAD_FIRST_BYTE, 1);
+  memcpy(tape + 16, from, 16);
+  tape[16 + 15] = 1;
+  not_converted(convert, tape, 32, 32, NASZEPTAN_FIELD, 1);
+  tape[16 + 1] = 18;
+  not_converted(convert, tape, 32, 32, NASZEPTAN_NO_KIND, 1);
+  /* 6 comes before 10, and 10 before a record. */
+  not_converted(convert, tape, 32, 31, NASZEPTAN_SHORT_BUFFER, 0);
+  not_converted(convert, tape, 32, 0, NASZEPTAN_SHORT_BUFFER, 0);
+  not_converted(convert, tape, 31, 0, NASZEPTAN_TAPE_LENGTH, 1);
+  not_converted(convert, tape, 15, 40, NASZEPTAN_TAPE_LENGTH, 0);
+}
+
+static void converters(void) {
+  uint8_t tape[16];
+  converts(naszeptan_two_to_three, two, three);
+  converts(naszeptan_three_to_two, three, two);
+  /* Edition two has no thread 4; what else is wrong is told before. */
+  memcpy(tape, three, 16);
+  tape[2] = 4;
+  not_converted(naszeptan_three_to_two, tape, 16, 16, NASZEPTAN_NO_THREAD, 0);
+  tape[7] = 1;
+  not_converted(naszeptan_three_to_two, tape, 16, 16, NASZEPTAN_FIELD, 0);
+}
+
 int main(void) {
   machines();
   bits();
@@ -374,6 +496,9 @@ int main(void) {
   fields();
   special_registers();
   records();
+  reader_of_edition_two();
+  writer_of_edition_two();
+  converters();
   printf("C host: %d checks passed\n", checks);
   return 0;
 }

@@ -9,6 +9,7 @@ use model::gen::Rng;
 use crate::calls;
 use crate::cells::Before;
 use crate::counts::Counts;
+use crate::editions;
 use crate::pair::Pair;
 use crate::past::Past;
 use crate::plan::Plan;
@@ -79,7 +80,8 @@ fn rng(seed: u64, batch: u64) -> Rng {
     Rng::new(seed ^ batch.wrapping_add(1).wrapping_mul(0xD6E8_FEB8_6659_FD93))
 }
 
-/// One batch: this many events in sequences, then the other calls.
+/// One batch: this many events in sequences, then the other calls, and those of
+/// edition two.
 fn batch<S: Side>(
     side: &S,
     seed: u64,
@@ -95,7 +97,8 @@ fn batch<S: Side>(
         sequence(side, &mut rng, start, length, counts)?;
         left -= length;
     }
-    calls::all(side, &mut rng, counts)
+    calls::all(side, &mut rng, counts)?;
+    editions::all(side, &mut rng, counts)
 }
 
 /// One sequence of events from one start, compared after each.

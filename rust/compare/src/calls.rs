@@ -29,7 +29,7 @@ pub fn all<S: Side>(side: &S, rng: &mut Rng, counts: &mut Counts) -> Result<(), 
 }
 
 /// A difference, unless what was given is what is right.
-fn same<T: PartialEq + std::fmt::Debug>(
+pub(crate) fn same<T: PartialEq + std::fmt::Debug>(
     input: impl FnOnce() -> String,
     right: T,
     given: T,

@@ -6,6 +6,7 @@ use model::Done;
 use naszeptan::{raw, Kind, KINDS};
 
 use crate::cells::{self, Before, Call, CALLS, CALL_ROWS, NUMBERS, SHOWN, STATES};
+use crate::editions::cells::Met;
 use crate::masks::{self, Mask, MASKS};
 use crate::sights;
 
@@ -14,10 +15,10 @@ use crate::sights;
 pub const ALL_MET_FROM: u64 = 1_000_000;
 
 /// How often one cell, mask, sight or call was met, and why it cannot be, if so.
-struct Row {
-    met: u64,
-    name: String,
-    why_not: Option<&'static str>,
+pub(crate) struct Row {
+    pub(crate) met: u64,
+    pub(crate) name: String,
+    pub(crate) why_not: Option<&'static str>,
 }
 
 /// All that was met.
@@ -31,6 +32,8 @@ pub struct Counts {
     calls: [[u64; NUMBERS]; CALLS],
     /// Records done by runs.
     pub records: u64,
+    /// What was met of edition two.
+    pub editions: Met,
 }
 
 impl Default for Counts {
@@ -41,6 +44,7 @@ impl Default for Counts {
             sights: [0; sights::SIGHTS],
             calls: [[0; NUMBERS]; CALLS],
             records: 0,
+            editions: Met::default(),
         }
     }
 }
@@ -51,7 +55,7 @@ fn kind_place(kind: u8) -> usize {
 }
 
 /// The place of a number. Those past 21 share the last, which no table allows.
-fn place(answer: u8) -> usize {
+pub(crate) fn place(answer: u8) -> usize {
     usize::from(answer).min(NUMBERS - 1)
 }
 
@@ -93,6 +97,7 @@ impl Counts {
             .chain(&self.sights)
             .chain(self.calls.as_flattened())
             .chain([&self.records])
+            .chain(self.editions.numbers())
             .copied()
             .collect()
     }
@@ -105,6 +110,7 @@ impl Counts {
             .chain(&mut self.sights)
             .chain(self.calls.as_flattened_mut())
             .chain([&mut self.records])
+            .chain(self.editions.numbers_mut())
             .zip(numbers)
             .for_each(|(ours, theirs)| *ours += theirs);
     }
@@ -142,7 +148,7 @@ impl Counts {
             .collect()
     }
 
-    /// Every cell, mask, sight and call.
+    /// Every cell, mask, sight and call, and all of edition two.
     fn all(&self) -> impl Iterator<Item = Row> + '_ {
         let sights = self.sights.iter().zip(&sights::ALL);
         let sights = sights.map(|(&met, (_, name, _))| Row {
@@ -154,6 +160,7 @@ impl Counts {
             .chain(self.all_masks())
             .chain(sights)
             .chain(self.all_calls())
+            .chain(self.editions.rows())
     }
 
     fn all_masks(&self) -> impl Iterator<Item = Row> + '_ {
@@ -200,7 +207,7 @@ impl Counts {
         })
     }
 
-    /// The four tables. A dot is a cell that cannot be met.
+    /// The tables. A dot is a cell that cannot be met.
     pub fn tables(&self) -> String {
         let mut text = String::new();
         // Writing to a string does not fail.
@@ -211,7 +218,7 @@ impl Counts {
         for (met, (_, name, _)) in self.sights.iter().zip(&sights::ALL) {
             let _ = writeln!(text, "{met:>9}  {name}");
         }
-        text
+        text + &self.editions.tables()
     }
 
     fn write_cells(&self, text: &mut String) -> std::fmt::Result {
@@ -283,7 +290,7 @@ impl Counts {
     }
 }
 
-fn write_cell(text: &mut String, met: u64, can: bool) -> std::fmt::Result {
+pub(crate) fn write_cell(text: &mut String, met: u64, can: bool) -> std::fmt::Result {
     if met == 0 && !can {
         write!(text, "{:>8}", ".")
     } else {

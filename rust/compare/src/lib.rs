@@ -14,6 +14,7 @@
 //! - [`batch`]: a numbered piece of the comparison, and a worker's share.
 //! - [`workers`]: the shares, each in a process of its own.
 //! - [`calls`]: valid, run, read and write, and bits that are no machine.
+//! - [`editions`]: edition two, and the converters between the editions.
 //! - [`shrink`]: the shortest tape that still shows a difference.
 
 #![forbid(unsafe_code)]
@@ -23,6 +24,7 @@ pub mod batch;
 pub mod calls;
 pub mod cells;
 pub mod counts;
+pub mod editions;
 pub mod masks;
 pub mod pair;
 pub mod past;

@@ -1,7 +1,7 @@
 //! The two sides of the comparison.
 
 use model::tape::{encode, MARK};
-use model::{valid, Done, Machine};
+use model::{valid, Done, Edition, Machine};
 use naszeptan::raw;
 
 /// The side under test: the calls of the header. The archive is one; the
@@ -37,6 +37,25 @@ pub trait Side: Sync {
     /// One event as a record.
     fn write(&self, e: raw::Event, buffer: &mut [u8]) -> u8 {
         raw::write(e, buffer)
+    }
+
+    /// One record of edition two.
+    fn read_two(&self, record: &[u8]) -> raw::Record {
+        raw::read_two(record)
+    }
+
+    /// One event as a record of edition two.
+    fn write_two(&self, e: raw::Event, buffer: &mut [u8]) -> u8 {
+        raw::write_two(e, buffer)
+    }
+
+    /// A tape of this edition in the other: the answer and the index.
+    fn convert(&self, from: Edition, tape: &[u8], buffer: &mut [u8]) -> (u8, usize) {
+        let converted = match from {
+            Edition::Two => raw::two_to_three(tape, buffer),
+            Edition::Three => raw::three_to_two(tape, buffer),
+        };
+        (converted.answer, converted.index)
     }
 }
 
@@ -97,9 +116,20 @@ pub fn model_step(m: &mut Machine, memory: &mut [u64], e: raw::Event) -> Done {
     }
 }
 
-/// The model's reader: what is refused comes with an event of zeros.
+/// The model's reader.
 pub fn model_read(record: &[u8]) -> raw::Record {
-    match model::read(record) {
+    read(model::read(record))
+}
+
+/// The model's reader of edition two.
+pub fn model_read_two(record: &[u8]) -> raw::Record {
+    read(model::edition_two::read(record))
+}
+
+/// What a reader gives, as the header has it: what is refused comes with an
+/// event of zeros.
+fn read(read: Result<(u8, model::Event), u8>) -> raw::Record {
+    match read {
         Ok((thread, e)) => raw::Record {
             answer: 0,
             event: event(thread, e),
@@ -115,6 +145,15 @@ pub fn model_read(record: &[u8]) -> raw::Record {
 pub fn model_write(e: raw::Event, buffer: &mut [u8]) -> u8 {
     match model::read(&record(e)) {
         Ok((thread, e)) => model::write(thread, e, buffer),
+        Err(number) => number,
+    }
+}
+
+/// The model's writer of edition two. The header puts 8 and 9 of what is no
+/// event before 3, 8 and 10.
+pub fn model_write_two(e: raw::Event, buffer: &mut [u8]) -> u8 {
+    match model::read(&record(e)) {
+        Ok((thread, e)) => model::edition_two::write(thread, e, buffer),
         Err(number) => number,
     }
 }

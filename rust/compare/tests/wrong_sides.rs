@@ -8,7 +8,7 @@ use compare::shrink::Case;
 use compare::sides::{Archive, Side};
 use compare::start::{Kind, Start};
 use model::machine::{texasr, MAX_LEVEL};
-use model::Done;
+use model::{Done, Edition};
 use naszeptan::raw;
 
 const SEED: u64 = 7;
@@ -324,6 +324,123 @@ fn wrong_calls_are_found() {
     assert!(found(&WritesMore).what.starts_with("write of"));
 }
 
+/// Reads an index of edition two highest byte first.
+struct ReadsHighFirst;
+
+impl Side for ReadsHighFirst {
+    fn read_two(&self, record: &[u8]) -> raw::Record {
+        let mut record = Archive.read_two(record);
+        record.event.index = record.event.index.swap_bytes();
+        record
+    }
+}
+
+/// Writes a record of edition two by a thread above 3 for the one that it is
+/// modulo 4.
+struct WritesAnyThread;
+
+impl Side for WritesAnyThread {
+    fn write_two(&self, e: raw::Event, buffer: &mut [u8]) -> u8 {
+        let thread = e.thread & 3;
+        Archive.write_two(raw::Event { thread, ..e }, buffer)
+    }
+}
+
+/// Tests the buffer before the thread.
+struct WritesBufferFirst;
+
+impl Side for WritesBufferFirst {
+    fn write_two(&self, e: raw::Event, buffer: &mut [u8]) -> u8 {
+        match Archive.write_two(e, buffer) {
+            3 if buffer.len() < 16 => 10,
+            answer => answer,
+        }
+    }
+}
+
+#[test]
+fn wrong_records_of_edition_two_are_found() {
+    assert!(found(&ReadsHighFirst).what.starts_with("read of"));
+    assert!(found(&WritesAnyThread).what.starts_with("write of"));
+    assert!(found(&WritesBufferFirst).what.starts_with("write of"));
+}
+
+/// Leaves in the buffer what it converted before the record that is refused.
+struct ConvertsSome;
+
+impl Side for ConvertsSome {
+    fn convert(&self, from: Edition, tape: &[u8], buffer: &mut [u8]) -> (u8, usize) {
+        let (answer, index) = Archive.convert(from, tape, buffer);
+        if matches!(answer, 3 | 7 | 8 | 9) {
+            Archive.convert(from, &tape[..16 * index], buffer);
+        }
+        (answer, index)
+    }
+}
+
+/// Tells the last record that is refused and not the first.
+struct ConvertsFromTheEnd;
+
+impl Side for ConvertsFromTheEnd {
+    fn convert(&self, from: Edition, tape: &[u8], buffer: &mut [u8]) -> (u8, usize) {
+        let told = Archive.convert(from, tape, buffer);
+        if !matches!(told.0, 3 | 7 | 8 | 9) {
+            return told;
+        }
+        let mut refused = tape
+            .chunks(16)
+            .enumerate()
+            .map(|(n, record)| (Archive.convert(from, record, &mut [0; 16]).0, n));
+        refused.rfind(|(answer, _)| *answer != 0).unwrap_or(told)
+    }
+}
+
+/// Takes edition three for edition two where the first record is refused so.
+struct Guesses;
+
+impl Side for Guesses {
+    fn convert(&self, from: Edition, tape: &[u8], buffer: &mut [u8]) -> (u8, usize) {
+        match Archive.convert(from, tape, buffer) {
+            (7, 0) => Archive.convert(from.other(), tape, buffer),
+            told => told,
+        }
+    }
+}
+
+/// Tests the buffer before the tape's length.
+struct ConvertsBufferFirst;
+
+impl Side for ConvertsBufferFirst {
+    fn convert(&self, from: Edition, tape: &[u8], buffer: &mut [u8]) -> (u8, usize) {
+        match buffer.len() < tape.len() {
+            true => (10, 0),
+            false => Archive.convert(from, tape, buffer),
+        }
+    }
+}
+
+/// Writes over the whole buffer, and not only as much as the tape has.
+struct ConvertsMore;
+
+impl Side for ConvertsMore {
+    fn convert(&self, from: Edition, tape: &[u8], buffer: &mut [u8]) -> (u8, usize) {
+        let told = Archive.convert(from, tape, buffer);
+        if told.0 == 0 {
+            buffer[tape.len()..].fill(0);
+        }
+        told
+    }
+}
+
+#[test]
+fn wrong_converters_are_found() {
+    assert!(found(&ConvertsSome).what.starts_with("converting"));
+    assert!(found(&ConvertsFromTheEnd).what.starts_with("converting"));
+    assert!(found(&Guesses).what.starts_with("converting"));
+    assert!(found(&ConvertsBufferFirst).what.starts_with("converting"));
+    assert!(found(&ConvertsMore).what.starts_with("converting"));
+}
+
 #[test]
 fn the_counts_do_not_depend_on_the_workers() {
     let events = 2100;
@@ -350,6 +467,10 @@ fn what_was_not_met_is_told() {
         "tsr., S, doomed, failed: itself",
         "run, none done, 6",
         "write, 10",
+        "write two, 3",
+        "read two, std",
+        "two to three: all of the other edition",
+        "three to two: 6 before 10",
     ] {
         assert!(unmet.contains(&format!("not met: {cell}")), "{cell}");
     }

@@ -7,12 +7,16 @@
 //! - [`event`]: the seventeen events.
 //! - [`step`](mod@step): doing one event.
 //! - [`tape`]: reading and writing records.
+//! - [`edition_two`]: the same for records of edition two.
+//! - [`edition`]: both editions, and tapes of one converted into the other.
 //! - [`run`](mod@run): running a tape, and the program.
 //! - [`gen`]: random machines, events and tapes for tests.
 
 #![forbid(unsafe_code)]
 
 pub mod answer;
+pub mod edition;
+pub mod edition_two;
 pub mod event;
 pub mod gen;
 pub mod machine;
@@ -20,6 +24,7 @@ pub mod run;
 pub mod step;
 pub mod tape;
 
+pub use edition::Edition;
 pub use event::Event;
 pub use machine::{valid, Entry, LineSet, Machine, Registers, State, Thread};
 pub use run::{program, run};

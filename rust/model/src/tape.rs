@@ -1,4 +1,5 @@
-//! Rules T1 to T8: reading and writing one record.
+//! Rules T1 to T7: reading and writing one record of edition three, and the
+//! fields that the records of every edition have.
 
 use crate::{answer, Event};
 
@@ -6,6 +7,20 @@ use crate::{answer, Event};
 pub const RECORD: usize = 16;
 /// A record's first byte.
 pub const MARK: u8 = 0xE3;
+
+/// The fields of a record, whatever its edition: where each of them stands, and
+/// what stands beside them, is the edition's own.
+#[derive(Clone, Copy, PartialEq, Eq, Default, Debug)]
+pub struct Fields {
+    pub kind: u8,
+    pub thread: u8,
+    pub x: u8,
+    pub ra: u8,
+    pub rb: u8,
+    pub flags: u8,
+    pub index: u32,
+    pub si: u16,
+}
 
 /// For each kind, the bits of a record that must be 0, the record taken as a
 /// number with its first byte the highest.
@@ -74,31 +89,20 @@ pub(crate) fn decode(record: &[u8; RECORD]) -> Result<(u8, Event), u8> {
     if u128::from_be_bytes(*record) & MUST_BE_ZERO[usize::from(kind)] != 0 {
         return Err(answer::FIELD);
     }
-    let one = flags & 1 != 0;
-    let two = flags & 2 != 0;
-    let index = u32::from_be_bytes([i0, i1, i2, i3]);
-    let si = u16::from_be_bytes([s0, s1]);
-    let event = match kind {
-        1 => Event::Tbegin { r: one },
-        2 => Event::Tend { a: one },
-        3 => Event::Tabort { ra },
-        4 => Event::Tabortwc { to: x, ra, rb },
-        5 => Event::Tabortdc { to: x, ra, rb },
-        6 => Event::Tsr { l: one },
-        7 => Event::Tcheck { bf: x },
-        8 => Event::Treclaim { ra },
-        9 => Event::Trechkpt,
-        10 => Event::Mtspr { spr: x, ra },
-        11 => Event::Mfspr { rt: ra, spr: x },
-        12 => Event::Ld { rt: x, index },
-        13 => Event::Std { ra, index },
-        14 => Event::Addi { rt: x, ra, si },
-        15 => Event::Disallowed,
-        16 => Event::Interrupt,
-        17 => Event::Host { pr: one, tm: two },
-        _ => return Err(answer::KIND),
+    let fields = Fields {
+        kind,
+        thread,
+        x,
+        ra,
+        rb,
+        flags,
+        index: u32::from_be_bytes([i0, i1, i2, i3]),
+        si: u16::from_be_bytes([s0, s1]),
     };
-    Ok((thread, event))
+    match fields.event() {
+        Some(event) => Ok((thread, event)),
+        None => Err(answer::KIND),
+    }
 }
 
 /// Writes one record into the first 16 bytes of the buffer and gives 0; a
@@ -115,41 +119,70 @@ pub fn write(thread: u8, e: Event, buf: &mut [u8]) -> u8 {
 
 /// The record of an event.
 pub fn encode(thread: u8, e: Event) -> [u8; RECORD] {
-    let (mut x, mut ra, mut rb, mut flags, mut index, mut si) = (0, 0, 0, 0, 0u32, 0u16);
-    match e {
-        Event::Tbegin { r: flag } | Event::Tend { a: flag } | Event::Tsr { l: flag } => {
-            flags = u8::from(flag);
-        }
-        Event::Tabort { ra: a } | Event::Treclaim { ra: a } => ra = a,
-        Event::Tabortwc { to, ra: a, rb: b } | Event::Tabortdc { to, ra: a, rb: b } => {
-            (x, ra, rb) = (to, a, b);
-        }
-        Event::Tcheck { bf } => x = bf,
-        Event::Mtspr { spr, ra: r } | Event::Mfspr { spr, rt: r } => (x, ra) = (spr, r),
-        Event::Ld { rt, index: i } => (x, index) = (rt, i),
-        Event::Std { ra: a, index: i } => (ra, index) = (a, i),
-        Event::Addi { rt, ra: a, si: s } => (x, ra, si) = (rt, a, s),
-        Event::Host { pr, tm } => flags = u8::from(pr) | u8::from(tm) << 1,
-        Event::Trechkpt | Event::Disallowed | Event::Interrupt => {}
-    }
-    let [i0, i1, i2, i3] = index.to_be_bytes();
-    let [s0, s1] = si.to_be_bytes();
+    let f = Fields::of(thread, e);
+    let [i0, i1, i2, i3] = f.index.to_be_bytes();
+    let [s0, s1] = f.si.to_be_bytes();
     [
-        MARK,
-        e.kind(),
-        thread,
-        x,
-        ra,
-        rb,
-        flags,
-        0,
-        i0,
-        i1,
-        i2,
-        i3,
-        s0,
-        s1,
-        0,
-        0,
+        MARK, f.kind, thread, f.x, f.ra, f.rb, f.flags, 0, i0, i1, i2, i3, s0, s1, 0, 0,
     ]
+}
+
+impl Fields {
+    /// The fields of an event by a thread. Those that its kind does not use
+    /// are 0.
+    #[inline]
+    pub fn of(thread: u8, e: Event) -> Fields {
+        let mut f = Fields {
+            kind: e.kind(),
+            thread,
+            ..Fields::default()
+        };
+        match e {
+            Event::Tbegin { r: flag } | Event::Tend { a: flag } | Event::Tsr { l: flag } => {
+                f.flags = u8::from(flag);
+            }
+            Event::Tabort { ra } | Event::Treclaim { ra } => f.ra = ra,
+            Event::Tabortwc { to, ra, rb } | Event::Tabortdc { to, ra, rb } => {
+                (f.x, f.ra, f.rb) = (to, ra, rb);
+            }
+            Event::Tcheck { bf } => f.x = bf,
+            Event::Mtspr { spr, ra: r } | Event::Mfspr { spr, rt: r } => (f.x, f.ra) = (spr, r),
+            Event::Ld { rt, index } => (f.x, f.index) = (rt, index),
+            Event::Std { ra, index } => (f.ra, f.index) = (ra, index),
+            Event::Addi { rt, ra, si } => (f.x, f.ra, f.si) = (rt, ra, si),
+            Event::Host { pr, tm } => f.flags = u8::from(pr) | u8::from(tm) << 1,
+            Event::Trechkpt | Event::Disallowed | Event::Interrupt => {}
+        }
+        f
+    }
+
+    /// The event of this kind with these operands; none if no event has the
+    /// kind. Fields that the kind does not use are not looked at.
+    #[inline]
+    pub fn event(self) -> Option<Event> {
+        let Fields { x, ra, rb, .. } = self;
+        let Fields { index, si, .. } = self;
+        let one = self.flags & 1 != 0;
+        let two = self.flags & 2 != 0;
+        Some(match self.kind {
+            1 => Event::Tbegin { r: one },
+            2 => Event::Tend { a: one },
+            3 => Event::Tabort { ra },
+            4 => Event::Tabortwc { to: x, ra, rb },
+            5 => Event::Tabortdc { to: x, ra, rb },
+            6 => Event::Tsr { l: one },
+            7 => Event::Tcheck { bf: x },
+            8 => Event::Treclaim { ra },
+            9 => Event::Trechkpt,
+            10 => Event::Mtspr { spr: x, ra },
+            11 => Event::Mfspr { rt: ra, spr: x },
+            12 => Event::Ld { rt: x, index },
+            13 => Event::Std { ra, index },
+            14 => Event::Addi { rt: x, ra, si },
+            15 => Event::Disallowed,
+            16 => Event::Interrupt,
+            17 => Event::Host { pr: one, tm: two },
+            _ => return None,
+        })
+    }
 }

@@ -1,7 +1,7 @@
 //! The stored expectations of the proved programs, held to this model: every line of the vectors and the text of every tape.
 //! Two readings of docs/RULES.md made apart so agree on them.
 
-use model::{program, read, step, Machine, Registers, State, Thread};
+use model::{program, read, step, Edition, Machine, Registers, State, Thread};
 use std::fmt::Write;
 use std::fs;
 use std::path::PathBuf;
@@ -223,17 +223,27 @@ fn told(text: &str) -> Vec<&str> {
         .collect()
 }
 
+/// Every tape for a reader, with the text beside it.
+fn tapes() -> Vec<(PathBuf, Vec<u8>, String)> {
+    let files = fs::read_dir(crates().join("../tapes")).expect("the tapes");
+    let paths = files.map(|file| file.expect("a file").path());
+    let tapes = paths.filter(|path| path.extension().is_some_and(|e| e == "tape"));
+    tapes
+        .map(|path| {
+            let tape = fs::read(&path).expect("the tape");
+            let text = fs::read_to_string(path.with_extension("txt")).expect("the text");
+            (path, tape, text)
+        })
+        .collect()
+}
+
 #[test]
 fn texts_beside_the_tapes_agree() {
-    let mut tapes = 0;
-    for file in fs::read_dir(crates().join("../tapes")).expect("the tapes") {
-        let path = file.expect("a file").path();
-        if path.extension().is_none_or(|e| e != "tape") {
-            continue;
-        }
-        let given = model::program(&fs::read(&path).expect("the tape"));
+    let tapes = tapes();
+    assert_eq!(tapes.len(), 11);
+    for (path, tape, text) in tapes {
+        let given = program(&tape);
         let given: Vec<&str> = given.lines().collect();
-        let text = fs::read_to_string(path.with_extension("txt")).expect("the text");
         let told = told(&text);
         let mut parts = told.split(|line| *line == "..");
         let start = parts.next().unwrap_or_default();
@@ -244,7 +254,69 @@ fn texts_beside_the_tapes_agree() {
                 assert!(given.starts_with(start) && given.ends_with(end), "{path:?}");
             }
         }
-        tapes += 1;
     }
-    assert_eq!(tapes, 9);
+}
+
+/// What a text says below the line that begins so; none if it has no such line.
+fn below<'a>(text: &'a str, words: &str) -> Option<Vec<&'a str>> {
+    let mut lines = text.lines().skip_while(|line| !line.starts_with(words));
+    lines.next()?;
+    let block = lines.skip(1).map_while(|line| line.strip_prefix("    "));
+    Some(block.collect())
+}
+
+/// Tapes that are converted, or not, as their texts say.
+#[test]
+fn texts_agree_on_what_is_converted() {
+    let (mut converted, mut refused) = (0, 0);
+    for (path, tape, text) in tapes() {
+        let mut three = vec![0; tape.len()];
+        let (number, index) = Edition::Two.convert(&tape, &mut three);
+        if let Some(told) = below(&text, "Converted from edition two, it runs:") {
+            assert_eq!((number, index), (0, tape.len() / 16), "{path:?}");
+            assert!(program(&three).lines().eq(told), "{path:?}");
+            let mut two = vec![0; tape.len()];
+            assert_eq!(Edition::Three.convert(&three, &mut two), (0, index));
+            assert_eq!(two, tape, "{path:?}");
+            converted += 1;
+        }
+        if let Some(told) = below(&text, "Converting it from edition two is refused,") {
+            assert_eq!(told, [format!("{number} {index}")], "{path:?}");
+            assert!(three.iter().all(|&byte| byte == 0), "{path:?}");
+            refused += 1;
+        }
+    }
+    assert_eq!((converted, refused), (2, 2));
+}
+
+/// What the text says of memory: the bytes of SI and of the index are in order.
+#[test]
+fn the_elision_of_edition_two_stores_298() {
+    let path = crates().join("../tapes/edition_two_elision.tape");
+    let two = fs::read(path).expect("the tape");
+    let mut three = vec![0; two.len()];
+    assert_eq!(Edition::Two.convert(&two, &mut three), (0, 9));
+    let (mut m, mut mem) = (Machine::fresh(), vec![0; 4096]);
+    assert_eq!(model::run(&mut m, &mut mem, &three), (0, 9));
+    assert_eq!((mem[272], mem.iter().sum()), (298, 298));
+}
+
+/// Rule T13: the same bytes as the wrong edition, both ways.
+#[test]
+fn tapes_are_refused_as_the_wrong_edition() {
+    let mut mixed_up = 0;
+    for (path, tape, _) in tapes() {
+        if tape.is_empty() || tape.len() % 16 != 0 {
+            continue;
+        }
+        let name = path.file_name().and_then(|n| n.to_str());
+        let edition = match name.is_some_and(|n| n.starts_with("edition_two")) {
+            true => Edition::Two,
+            false => Edition::Three,
+        };
+        let mut buf = vec![0; tape.len()];
+        assert_eq!(edition.other().convert(&tape, &mut buf), (7, 0), "{path:?}");
+        mixed_up += 1;
+    }
+    assert_eq!(mixed_up, 8);
 }

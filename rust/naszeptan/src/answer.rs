@@ -27,7 +27,8 @@ pub enum Answer {
     Size = 1,
     /// 2: not a valid machine.
     NoMachine = 2,
-    /// 3: the event's thread is not below the count.
+    /// 3: the event's thread is not below the count; from the writer of
+    /// edition two, it is above 3.
     NoThread = 3,
     /// 4: a used register, BF, TO, SPR or index out of range.
     Operand = 4,
@@ -35,13 +36,14 @@ pub enum Answer {
     HostInT = 5,
     /// 6: the tape's length is not a multiple of 16 bytes.
     TapeLength = 6,
-    /// 7: a record's first byte is not 0xE3.
+    /// 7: a record's first byte is not 0xE3; in edition two, it is above 3.
     BadFirstByte = 7,
     /// 8: a kind that is not 1 to 17.
     NoKind = 8,
     /// 9: an unused field or a fixed byte is not 0, or flags are too big.
     Field = 9,
-    /// 10: the writer's buffer has under 16 bytes.
+    /// 10: the writer's buffer has under 16 bytes, or the converter's fewer
+    /// than the tape.
     ShortBuffer = 10,
     /// 11: a TM instruction with TM = 0.
     FacilityOff = 11,

@@ -2,7 +2,8 @@
 
 use std::fmt;
 
-use crate::{raw, Answer, Kind};
+use crate::raw::{self, RECORD_SIZE};
+use crate::{Answer, Edition, Kind};
 
 /// One event with its operands and nothing else (docs/RULES.md, E0.1). The
 /// thread is named beside it.
@@ -209,6 +210,39 @@ impl Event {
             _ => return Err(Answer::NoKind),
         };
         Ok((thread, event))
+    }
+
+    /// The thread and the event of one record of this edition, or why it is
+    /// refused: [`Answer::TapeLength`], [`Answer::BadFirstByte`],
+    /// [`Answer::NoKind`] or [`Answer::Field`].
+    ///
+    /// In edition two the first byte is the thread, and a bad one is above 3.
+    pub fn read_in(edition: Edition, record: &[u8]) -> Result<(u8, Event), Answer> {
+        let record = match edition {
+            Edition::Two => raw::read_two(record),
+            Edition::Three => raw::read(record),
+        };
+        match Answer::promised(record.answer) {
+            Answer::Done => Ok(Event::from_raw(record.event)
+                .expect("proved: the reader gives an event of its kind, its other fields 0")),
+            refused => Err(refused),
+        }
+    }
+
+    /// The record of this edition that the event by this thread has.
+    ///
+    /// Edition three has one for every event by any thread. Edition two has
+    /// none for a thread above 3, which is [`Answer::NoThread`].
+    pub fn write_in(self, edition: Edition, thread: u8) -> Result<[u8; RECORD_SIZE], Answer> {
+        let (event, mut record) = (self.to_raw(thread), [0; RECORD_SIZE]);
+        let answer = match edition {
+            Edition::Two => raw::write_two(event, &mut record),
+            Edition::Three => raw::write(event, &mut record),
+        };
+        match Answer::promised(answer) {
+            Answer::Done => Ok(record),
+            refused => Err(refused),
+        }
     }
 }
 

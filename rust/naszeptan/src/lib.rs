@@ -66,6 +66,8 @@
 //!   and [`run`].
 //! - [`Machine::step_with_failed`], [`Done`], [`ThreadSet`]: which threads failed
 //!   in an event, others than its own too.
+//! - [`Edition`], [`Tape::convert`], [`Event::read_in`], [`Event::write_in`]:
+//!   tapes of edition two.
 //! - [`KINDS`], [`Kind`], [`Operand`]: what all events of one kind have in
 //!   common, one row for each kind.
 //! - [`Texasr`], [`Failure`], [`Cause`]: what a failure left behind.
@@ -78,6 +80,7 @@
 pub mod raw;
 
 mod answer;
+mod edition;
 mod event;
 mod kind;
 mod machine;
@@ -90,6 +93,7 @@ mod threads;
 mod transaction;
 
 pub use answer::{Answer, NoAnswer};
+pub use edition::{Edition, NotConverted};
 pub use event::Event;
 pub use kind::{Kind, Operand, KINDS};
 pub use machine::{Control, Done, Ended, Machine, State, Thread};

@@ -1,5 +1,5 @@
 //! The C header `naszeptan.h` in Rust: the same structs, bit for bit, and the
-//! seven functions.
+//! same functions.
 //!
 //! The functions are safe. The proved code takes any bits: what is no
 //! machine, no event or no record is refused by a number, and then nothing is
@@ -239,6 +239,18 @@ pub struct Record {
     pub event: Event,
 }
 
+/// What a converter gives.
+#[repr(C)]
+#[derive(Clone, Copy, Debug, PartialEq, Eq)]
+pub struct Converted {
+    /// The number given back.
+    pub answer: u8,
+    /// Where the answer is 0, how many records were converted; with 6, how
+    /// many whole records there are; with 10, 0. With any other, the index of
+    /// the record that was refused.
+    pub index: usize,
+}
+
 /// The version of the rules that the archive keeps; compare it with
 /// [`VERSION`].
 pub fn version() -> u32 {
@@ -278,4 +290,30 @@ pub fn read(record: &[u8]) -> Record {
 /// in this order.
 pub fn write(event: Event, buffer: &mut [u8]) -> u8 {
     sys::write(event, buffer)
+}
+
+/// One record of edition two as an event. Refused by 6, 7, 8, 9 in this order;
+/// 7 is a first byte, the thread, above 3.
+pub fn read_two(record: &[u8]) -> Record {
+    sys::read_two(record)
+}
+
+/// One event as a record of edition two, in the buffer's first 16 bytes.
+/// Refused by 8 and 9 (no event), 3 (a thread above 3), 8 (a kind above 17) and
+/// 10 in this order.
+pub fn write_two(event: Event, buffer: &mut [u8]) -> u8 {
+    sys::write_two(event, buffer)
+}
+
+/// A tape of edition two as one of edition three, in the buffer's first bytes,
+/// as many as the tape has. Refused by 6, 10, and by the number of the first
+/// record that is refused; then the buffer keeps all its bytes.
+pub fn two_to_three(tape: &[u8], buffer: &mut [u8]) -> Converted {
+    sys::two_to_three(tape, buffer)
+}
+
+/// A tape of edition three as one of edition two: [`two_to_three`] the other
+/// way.
+pub fn three_to_two(tape: &[u8], buffer: &mut [u8]) -> Converted {
+    sys::three_to_two(tape, buffer)
 }

@@ -1,10 +1,10 @@
-//! The seven functions of the archive. All `unsafe` of the crate is here.
+//! The functions of the archive. All `unsafe` of the crate is here.
 //!
 //! The header asks one thing of a caller: that a pointer with its length
 //! names elements which the call may use alone. A Rust slice is just that, and
 //! any other bits may be handed in; so each function here is safe.
 
-use crate::raw::{Done, Ended, Event, Machine, Record};
+use crate::raw::{Converted, Done, Ended, Event, Machine, Record};
 
 extern "C" {
     fn naszeptan_version() -> u32;
@@ -20,6 +20,20 @@ extern "C" {
     ) -> Ended;
     fn naszeptan_read(record: *const u8, bytes: usize) -> Record;
     fn naszeptan_write(event: Event, buffer: *mut u8, bytes: usize) -> u8;
+    fn naszeptan_read_two(record: *const u8, bytes: usize) -> Record;
+    fn naszeptan_write_two(event: Event, buffer: *mut u8, bytes: usize) -> u8;
+    fn naszeptan_two_to_three(
+        tape: *const u8,
+        bytes: usize,
+        buffer: *mut u8,
+        room: usize,
+    ) -> Converted;
+    fn naszeptan_three_to_two(
+        tape: *const u8,
+        bytes: usize,
+        buffer: *mut u8,
+        room: usize,
+    ) -> Converted;
 }
 
 pub(crate) fn version() -> u32 {
@@ -66,4 +80,25 @@ pub(crate) fn write(event: Event, buffer: &mut [u8]) -> u8 {
     // SAFETY: pointer and length are those of one slice, borrowed for the
     // call by it alone; the event goes by value and may be any bits.
     unsafe { naszeptan_write(event, buffer.as_mut_ptr(), buffer.len()) }
+}
+
+pub(crate) fn read_two(record: &[u8]) -> Record {
+    // SAFETY: as for `read`.
+    unsafe { naszeptan_read_two(record.as_ptr(), record.len()) }
+}
+
+pub(crate) fn write_two(event: Event, buffer: &mut [u8]) -> u8 {
+    // SAFETY: as for `write`.
+    unsafe { naszeptan_write_two(event, buffer.as_mut_ptr(), buffer.len()) }
+}
+
+pub(crate) fn two_to_three(tape: &[u8], buffer: &mut [u8]) -> Converted {
+    // SAFETY: each pointer and length are those of one slice. The tape is only
+    // read, and cannot overlap the buffer, which is borrowed by the call alone.
+    unsafe { naszeptan_two_to_three(tape.as_ptr(), tape.len(), buffer.as_mut_ptr(), buffer.len()) }
+}
+
+pub(crate) fn three_to_two(tape: &[u8], buffer: &mut [u8]) -> Converted {
+    // SAFETY: as for `two_to_three`.
+    unsafe { naszeptan_three_to_two(tape.as_ptr(), tape.len(), buffer.as_mut_ptr(), buffer.len()) }
 }

@@ -4,13 +4,14 @@ use std::fmt;
 use std::slice::Chunks;
 
 use crate::raw::{self, RECORD_SIZE};
-use crate::{Answer, Event};
+use crate::{Answer, Edition, Event, NotConverted};
 
 /// A tape: records of 16 bytes, one after the other (docs/RULES.md, T1 and
 /// T2).
 ///
 /// It is made event by event, or of any bytes. Bytes that are no records stay
 /// as they are; [`records`](Tape::records) and a run say why they are none.
+/// All but what names an [`Edition`] is of edition three.
 ///
 /// Displayed, it is a listing: a line for each record with its number, thread
 /// and event, or the answer by which it is refused and its bytes.
@@ -40,6 +41,7 @@ pub struct Tape {
 /// which it is refused.
 #[derive(Clone, Debug)]
 pub struct Records<'a> {
+    edition: Edition,
     pieces: Chunks<'a, u8>,
 }
 
@@ -60,13 +62,9 @@ impl Tape {
     ///
     /// The record starts where the tape stops, also after a ragged end.
     pub fn push(&mut self, thread: u8, event: Event) -> &mut Tape {
-        let mut record = [0; RECORD_SIZE];
-        let answer = Answer::promised(raw::write(event.to_raw(thread), &mut record));
-        assert_eq!(
-            answer,
-            Answer::Done,
-            "proved: the writer refuses no event where the buffer has 16 bytes"
-        );
+        let record = event
+            .write_in(Edition::Three, thread)
+            .expect("proved: the writer refuses no event where the buffer has 16 bytes");
         self.bytes.extend_from_slice(&record);
         self
     }
@@ -112,19 +110,54 @@ impl Tape {
     /// assert_eq!(records.next(), None);
     /// ```
     pub fn records(&self) -> Records<'_> {
+        self.records_in(Edition::Three)
+    }
+
+    /// The records of a tape of this edition, as [`records`](Tape::records) has
+    /// those of edition three.
+    pub fn records_in(&self, edition: Edition) -> Records<'_> {
         Records {
+            edition,
             pieces: self.bytes.chunks(RECORD_SIZE),
         }
     }
-}
 
-/// One piece of a tape as the archive's reader has it.
-fn read(piece: &[u8]) -> Result<(u8, Event), Answer> {
-    let record = raw::read(piece);
-    match Answer::promised(record.answer) {
-        Answer::Done => Ok(Event::from_raw(record.event)
-            .expect("proved: the reader gives an event of its kind, its other fields 0")),
-        refused => Err(refused),
+    /// This tape, which is of edition `from`, in the other edition: the same
+    /// events by the same threads, and converted back the same bytes
+    /// (docs/RULES.md, T12 and T13). The first record that one edition's reader
+    /// or the other's writer refuses is told, and nothing is converted.
+    ///
+    /// ```
+    /// use naszeptan::{Answer, Edition, Event, Tape};
+    ///
+    /// let old = Tape::from_bytes([0, 0x0D, 0, 3, 0, 0, 0, 0, 0x11, 0, 0, 0, 0, 0, 0, 0]);
+    /// let tape = old.convert(Edition::Two).unwrap();
+    /// assert_eq!(tape.to_string(), "    0  thread 0  std r3, 17");
+    /// assert_eq!(tape.convert(Edition::Three).unwrap(), old);
+    ///
+    /// let mixed_up = old.convert(Edition::Three).unwrap_err();
+    /// assert_eq!((mixed_up.answer, mixed_up.index), (Answer::BadFirstByte, 0));
+    /// assert_eq!(mixed_up.to_string(), "record 0: 7, the first byte is not 0xE3");
+    ///
+    /// let mut five = Tape::new();
+    /// five.push(0, Event::Interrupt).push(4, Event::Interrupt);
+    /// let refused = five.convert(Edition::Three).unwrap_err();
+    /// assert_eq!(refused.to_string(), "record 1: 3, no such thread");
+    /// ```
+    pub fn convert(&self, from: Edition) -> Result<Tape, NotConverted> {
+        let mut bytes = vec![0; self.bytes.len()];
+        let converted = match from {
+            Edition::Two => raw::two_to_three(&self.bytes, &mut bytes),
+            Edition::Three => raw::three_to_two(&self.bytes, &mut bytes),
+        };
+        match Answer::promised(converted.answer) {
+            Answer::Done => Ok(Tape { bytes }),
+            answer => Err(NotConverted {
+                from,
+                answer,
+                index: converted.index,
+            }),
+        }
     }
 }
 
@@ -132,7 +165,8 @@ impl Iterator for Records<'_> {
     type Item = Result<(u8, Event), Answer>;
 
     fn next(&mut self) -> Option<Self::Item> {
-        self.pieces.next().map(read)
+        let piece = self.pieces.next()?;
+        Some(Event::read_in(self.edition, piece))
     }
 
     fn size_hint(&self) -> (usize, Option<usize>) {
@@ -180,7 +214,7 @@ impl fmt::Display for Tape {
                 writeln!(f)?;
             }
             write!(f, "{number:>5}  ")?;
-            match read(piece) {
+            match Event::read_in(Edition::Three, piece) {
                 Ok((thread, event)) => write!(f, "thread {thread}  {event}")?,
                 Err(refused) => {
                     write!(f, "refused {}:", refused.number())?;

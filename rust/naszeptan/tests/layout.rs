@@ -4,7 +4,8 @@
 use std::mem::{align_of, offset_of, size_of};
 
 use naszeptan::raw::{
-    Control, Done, Ended, Entry, Event, Lines, Machine, Record, Registers, Thread, Transaction,
+    Control, Converted, Done, Ended, Entry, Event, Lines, Machine, Record, Registers, Thread,
+    Transaction,
 };
 
 /// The size and alignment of a type, and where its fields start.
@@ -77,4 +78,5 @@ fn answers() {
         (6712, 8, vec![0, 8, 16])
     );
     assert_eq!(layout!(Record, answer, event), (20, 4, vec![0, 4]));
+    assert_eq!(layout!(Converted, answer, index), (16, 8, vec![0, 8]));
 }

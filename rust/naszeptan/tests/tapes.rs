@@ -4,7 +4,7 @@
 use std::fs;
 use std::path::{Path, PathBuf};
 
-use naszeptan::{Answer, Ended, Event, Machine, Tape, LEVELS, MEMORY};
+use naszeptan::{Answer, Edition, Ended, Event, Machine, NotConverted, Tape, LEVELS, MEMORY};
 
 /// The program's limit (docs/RULES.md, P2). A run has none.
 const LONGEST: usize = 65_536;
@@ -13,10 +13,30 @@ fn folder() -> PathBuf {
     Path::new(env!("CARGO_MANIFEST_DIR")).join("../../tapes")
 }
 
+fn tape(name: &str) -> Tape {
+    Tape::from_bytes(fs::read(folder().join(format!("{name}.tape"))).unwrap())
+}
+
+fn text(name: &str) -> String {
+    fs::read_to_string(folder().join(format!("{name}.txt"))).unwrap()
+}
+
 /// The lines that the program writes: the last block of the text.
 fn expected(name: &str) -> Vec<String> {
-    let text = fs::read_to_string(folder().join(format!("{name}.txt"))).unwrap();
+    let text = text(name);
     let (_, block) = text.rsplit_once("\n\n").unwrap();
+    lines(block)
+}
+
+/// The block below the line of the text that ends so.
+fn below(name: &str, words: &str) -> Vec<String> {
+    let text = text(name);
+    let (_, rest) = text.split_once(&format!("{words}\n\n")).unwrap();
+    let (block, _) = rest.split_once("\n\n").unwrap();
+    lines(block)
+}
+
+fn lines(block: &str) -> Vec<String> {
     block.lines().map(|line| line.trim().to_string()).collect()
 }
 
@@ -68,8 +88,7 @@ fn written(tape: &Tape) -> Vec<String> {
 
 /// The text of a long tape leaves lines out at "..".
 fn hold(name: &str) {
-    let tape = Tape::from_bytes(fs::read(folder().join(format!("{name}.tape"))).unwrap());
-    let (given, expected) = (written(&tape), expected(name));
+    let (given, expected) = (written(&tape(name)), expected(name));
     match expected.iter().position(|line| line == "..") {
         None => assert_eq!(given, expected),
         Some(gap) => {
@@ -77,6 +96,43 @@ fn hold(name: &str) {
             let tail = &expected[gap + 1..];
             assert_eq!(given[given.len() - tail.len()..], *tail);
         }
+    }
+}
+
+/// The tape is of edition two. Converted it runs as the text says, and
+/// converted back it is the same bytes.
+fn hold_converted(name: &str) {
+    hold(name);
+    let two = tape(name);
+    let three = two.convert(Edition::Two).unwrap();
+    assert_eq!(
+        written(&three),
+        below(name, "Converted from edition two, it runs:")
+    );
+    assert_eq!(three.convert(Edition::Three), Ok(two));
+}
+
+/// Taken for edition two, the tape is refused as the text says.
+fn hold_not_converted(name: &str) {
+    hold(name);
+    let NotConverted { answer, index, .. } = tape(name).convert(Edition::Two).unwrap_err();
+    let told = below(name, "is refused, by this number at this record:");
+    assert_eq!(told, [format!("{} {index}", answer.number())]);
+}
+
+/// The same bytes as the wrong edition, both ways.
+#[test]
+fn the_wrong_edition() {
+    for (name, taken_for) in [
+        ("edition_two", Edition::Three),
+        ("edition_two_elision", Edition::Three),
+        ("edition_two_thread_4", Edition::Three),
+        ("elision", Edition::Two),
+        ("every_kind", Edition::Two),
+        ("pair", Edition::Two),
+    ] {
+        let refused = tape(name).convert(taken_for).unwrap_err();
+        assert_eq!((refused.answer, refused.index), (Answer::BadFirstByte, 0));
     }
 }
 
@@ -98,12 +154,27 @@ fn all_levels() {
 
 #[test]
 fn edition_two() {
-    hold("edition_two");
+    hold_converted("edition_two");
+}
+
+#[test]
+fn edition_two_elision() {
+    hold_converted("edition_two_elision");
+    let three = tape("edition_two_elision").convert(Edition::Two).unwrap();
+    let mut memory = vec![0; MEMORY];
+    let ended = Machine::fresh().run(&mut memory, three);
+    assert_eq!(ended.answer, Answer::Done);
+    assert_eq!((memory[272], memory.iter().sum()), (298, 298));
+}
+
+#[test]
+fn edition_two_thread_4() {
+    hold_not_converted("edition_two_thread_4");
 }
 
 #[test]
 fn elision() {
-    hold("elision");
+    hold_not_converted("elision");
 }
 
 #[test]

@@ -2,6 +2,7 @@
 //! generator. The weights make every kind of event meet every state, both
 //! overflows, the nesting limit, conflicts and every refusal.
 
+mod editions;
 mod events;
 mod flaws;
 mod machines;
@@ -9,6 +10,7 @@ mod put;
 mod rng;
 mod tapes;
 
+pub use editions::{damaged_tape, good_record, good_tape, near_record};
 pub use events::{any_event, event, event_of};
 pub use flaws::{broken_machine, flawed_machine, shaken_machine, Flaw};
 pub use machines::{length, machine, memory, valid_machine};

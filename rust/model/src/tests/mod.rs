@@ -1,5 +1,6 @@
 //! Tests. What they share is here.
 
+mod editions;
 mod events;
 mod failed;
 mod literal;

@@ -1,4 +1,4 @@
-//! Rules T1 to T8, R1 to R4 and P1 to P6: records, the run and the program.
+//! Rules T1 to T7, R1 to R4 and P1 to P6: records, the run and the program.
 
 use super::*;
 use crate::gen::{self, Rng};
@@ -30,11 +30,11 @@ const A: u8 = 0xA1;
 const B: u8 = 0xB2;
 const C: u8 = 0xC3;
 
-/// Events, each with bytes 1 and 3 to 6 of its record: the kind, the three
-/// operands and the flags. The other bytes are the same for all.
+/// Events, each with its kind, the three operands X, RA and RB, and the flags.
+/// They are bytes 1 and 3 to 6 of its record; the others are the same for all.
 type Bytes = (Event, [u8; 5]);
 
-const KINDS_1_TO_9: [Bytes; 9] = [
+pub(super) const KINDS_1_TO_9: [Bytes; 9] = [
     (Event::Tbegin { r: true }, [1, 0, 0, 0, 1]),
     (Event::Tend { a: true }, [2, 0, 0, 0, 1]),
     (Event::Tabort { ra: A }, [3, 0, A, 0, 0]),
@@ -60,7 +60,7 @@ const KINDS_1_TO_9: [Bytes; 9] = [
     (Event::Trechkpt, [9, 0, 0, 0, 0]),
 ];
 
-const KINDS_10_TO_17: [Bytes; 9] = [
+pub(super) const KINDS_10_TO_17: [Bytes; 9] = [
     (Event::Mtspr { spr: C, ra: A }, [10, C, A, 0, 0]),
     (Event::Mfspr { rt: A, spr: C }, [11, C, A, 0, 0]),
     (ld(C, 0), [12, C, 0, 0, 0]),
