@@ -33,7 +33,7 @@ extern "C" {
 /* The version of the rules that this header was written for: the model's
  * version in the upper 16 bits, the change requests that have landed in the
  * lower. naszeptan_version() gives the archive's. */
-#define NASZEPTAN_VERSION UINT32_C(0x00040005)
+#define NASZEPTAN_VERSION UINT32_C(0x00040006)
 
 /* Sizes. */
 #define NASZEPTAN_THREADS 4        /* thread records of a machine */
@@ -271,10 +271,14 @@ struct naszeptan_done {
 };
 
 /* The answer that ended a run (0 at the tape's end), how many records were
- * done, and the machine after exactly those. */
+ * done, the index of the record that the answer is about, and the machine after
+ * exactly the records done. For 7, 8 and 9 the index is that of the first bad
+ * record, for 6 the number of whole records, for 1 and 2 it is 0; nothing was
+ * run then, and count is 0. Else it is count. */
 struct naszeptan_ended {
   uint8_t answer;
   size_t count;
+  size_t index;
   struct naszeptan_machine machine;
 };
 
@@ -305,8 +309,10 @@ struct naszeptan_done naszeptan_step(struct naszeptan_machine machine,
                                      uint64_t *memory, size_t len,
                                      struct naszeptan_event event);
 
-/* A tape, record by record, until one is refused or the tape ends. Refused as
- * a whole by 1, 2 and 6, also where the tape is empty. */
+/* A tape. Refused as a whole, and nothing of it run, by 1, 2 and 6, also where
+ * it is empty, and then by 7, 8 or 9 of the first record that one of these
+ * applies to. Else its events are done, one after another, until one is refused
+ * or the tape ends. */
 struct naszeptan_ended naszeptan_run(struct naszeptan_machine machine,
                                      uint64_t *memory, size_t len,
                                      const uint8_t *tape, size_t bytes);
