@@ -1,6 +1,6 @@
 -- What the reader's tests tell: its first two, and its match on the kind; a tape's record as code takes it; bytes laid over a buffer's start.
-use mathlib.Core.Path.{_≡_, _∙_}
-use mathlib.Core.Bool.{Bool, true, _&&_}
+use mathlib.Core.Path.{_≡_, refl, sym, ap, _∙_}
+use mathlib.Core.Bool.{Bool, true, false, cond, _&&_}
 use mathlib.Core.List.{List, _++_}
 use Prim.Native.Nat.{ℕ, _+_, _-_, _*_, _<_, _≤_}
 use native.Mathlib.Omega.{arith}
@@ -10,7 +10,7 @@ use lib.Seq.{sets, sets-eq}
 use borrow.Author.Tests.{le-leb, lt-leb, eq-eqb}
 use Rattle.event.specs.Rows.{rows, kind-right, row}
 use Rattle.event.specs.declared.Fields.{Fields}
-use Rattle.tape.specs.Tape.{record-size, first-byte, byte, record-at, fields-at, fixed-zero, unused-clear, judged, of-kind, read}
+use Rattle.tape.specs.Tape.{record-size, first-byte, byte, record-at, fields-at, fixed-zero, unused-clear, judged, of-kind, read, number}
 use Rattle.tape.specs.declared.Read.{Read}
 use Rattle.tape.specs.declared.Read.the-variants.{Refused}
 
@@ -37,6 +37,20 @@ low f zero h = simp (lt-leb 1 (f .kind) h)
 pub high : (f : Fields) (zero : Bool) → length rows < f .kind → Refused 8 ≡ of-kind f zero
 unfolding kind-right of-kind
 high f zero h = let l : 1 ≤ f .kind = omega arith in simp (le-leb 1 (f .kind) l, lt-leb (f .kind) (length rows) h)
+
+-- the same of its number alone
+judged-number : (f : Fields) (b : Bool) → number (judged f b) ≡ cond b 0 9
+unfolding judged
+judged-number f true = refl
+judged-number f false = refl
+
+pub number-in : (f : Fields) (zero : Bool) (n : ℕ) → n ≡ cond (zero && unused-clear (row (f .kind)) f) 0 9
+    → 1 ≤ f .kind → f .kind ≤ length rows → n ≡ number (of-kind f zero)
+number-in f zero n p lo hi = p ∙ sym (judged-number f _) ∙ ap number (kind-in f zero _ refl lo hi)
+
+pub number-is : (k : ℕ) (f : Fields) (zero : Bool) (n : ℕ) → kind-right k ≡ true → f .kind ≡ k
+    → n ≡ cond (zero && unused-clear (row k) f) 0 9 → n ≡ number (of-kind f zero)
+number-is k f zero n h e p = p ∙ sym (judged-number f _) ∙ ap number (kind-is k f zero _ h e refl)
 
 -- a record of a tape as the code takes it
 pub part-is : (tape : List ℕ) (k : ℕ) → take (k * record-size + record-size - k * record-size) (drop (k * record-size) tape) ≡ record-at tape k

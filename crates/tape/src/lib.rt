@@ -1,5 +1,6 @@
 // The tape: records of 16 bytes, one event each (rules T1 to T8).
 pub mod reader;
+pub mod whole;
 pub mod writer;
 
 ghost use mathlib.Core.Path.{_≡_};

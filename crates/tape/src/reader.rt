@@ -27,7 +27,7 @@ pub fn four(a: u8, b: u8, c: u8, d: u8) -> u32
 }
 
 // The fields at their places.
-fn fields_at(s: &[u8]) -> Fields
+pub fn fields_at(s: &[u8]) -> Fields
     requires { ⌜ length (now s) ≡ record-size ⌝ }
     ensures { λ r. ⌜ r ≡ fields-at (now (s .entry)) ⌝ }
 {
@@ -44,7 +44,7 @@ fn fields_at(s: &[u8]) -> Fields
 }
 
 // The fixed 0 bytes are 0.
-fn fixed_zero(s: &[u8]) -> bool
+pub fn fixed_zero(s: &[u8]) -> bool
     requires { ⌜ length (now s) ≡ record-size ⌝ }
     ensures { λ r. ⌜ r ≡ fixed-zero (now (s .entry)) ⌝ }
 {
@@ -52,7 +52,7 @@ fn fixed_zero(s: &[u8]) -> bool
 }
 
 // Every field that the row does not use is 0, and the flags are not too big.
-fn unused_clear(r: Row, f: Fields) -> bool
+pub fn unused_clear(r: Row, f: Fields) -> bool
     ensures { λ b. ⌜ b ≡ unused-clear r f ⌝ }
 {
     let x = r.x;
