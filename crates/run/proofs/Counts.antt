@@ -3,17 +3,20 @@ use mathlib.Core.Path.{_≡_, refl, sym, ap, subst, _∙_}
 use mathlib.Core.Bool.{Bool, true, false}
 use mathlib.Core.Logic.{_⊎_, inl, inr, ⊎-elim}
 use mathlib.Core.List.{List}
-use Prim.Native.Nat.{ℕ, zero, suc, _+_, _-_, _/_, _%_, _<_}
+use Prim.Native.Nat.{ℕ, zero, suc, _+_, _-_, _/_, _%_, _≤_, _<_}
 use native.Mathlib.Omega.{arith}
 use lib.Dec.{eqb}
 use lib.ListN.{length, getD}
-use borrow.Author.Tests.{eqb-true}
+use borrow.Author.Tests.{eq-eqb, ne-eqb, eqb-true}
 use Rattle.machine.specs.Valid.{valid}
 use Rattle.machine.specs.declared.Machine.{Machine}
+use Rattle.machine.proofs.Validity.{valid-passes}
 use Rattle.tape.specs.Tape.{record-size, read, record-at}
+use Rattle.tape.specs.FirstBad.{read-number, first-bad, bad-record}
+use Rattle.tape.proofs.FirstBad.{first-found}
 use Rattle.run.specs.Run.{Result, in-front, reads, one, play, run}
-use Rattle.run.specs.Steps.{Stops, EndsFirst, OneAnswerEach}
-use Rattle.run.proofs.Laws.{one-answer, play-stops, play-goes, run-plays}
+use Rattle.run.specs.Steps.{Stops, EndsFirst, BadRefused, FirstBad, OneAnswerEach}
+use Rattle.run.proofs.Laws.{one-answer, play-stops, play-goes, run-bad, run-plays}
 use Rattle.run.proofs.Steps.{one-stops}
 
 -- the end of a run over n records from record k on, of which c are counted
@@ -57,7 +60,7 @@ ends (suc n) tape k m mem = go (eqb (t .ended .count) k) refl (ends n tape (k + 
         ((suc c, omega arith, next c e))
 
 -- of a run from its start
-module _ (m : Machine) (mem tape : List ℕ) (v : valid m (length mem) ≡ true) (r : eqb (length tape % record-size) 0 ≡ true) where
+module _ (m : Machine) (mem tape : List ℕ) (v : valid m (length mem) ≡ true) (r : bad-record tape .answer ≡ 0) where
   run-ends : End tape 0 (length tape / record-size) (run m mem tape) (run m mem tape .ended .count)
   run-ends =
       let n = length tape / record-size in
@@ -73,3 +76,15 @@ ends-first m mem tape v r =
 
 pub one-answer-each : OneAnswerEach
 one-answer-each m mem tape v r = ⊎-elim (λ w. inl (w .0, w .2)) (λ w. inr (w .0, w .2, w .3)) (run-ends m mem tape v r)
+
+pub bad-refused : BadRefused
+bad-refused m mem tape v b = run-bad m mem tape (valid-passes m (length mem) v) (ne-eqb _ 0 b)
+
+pub first-bad-one : FirstBad
+unfolding bad-record
+first-bad-one tape w =
+    simp (eq-eqb (length tape % record-size) 0 w)
+    (λ b.
+    let f = first-found read-number tape (length tape / record-size) 0 b in
+    let z : 0 + length tape / record-size ≡ length tape / record-size = omega arith in
+    (subst (λ (n : ℕ). first-bad read-number tape 0 (length tape / record-size) .index < n) z (f .0), f .1, λ i h. f .2 i (omega arith) h))

@@ -9,16 +9,17 @@ use borrow.Author.Tests.{eq-eqb, ne-eqb}
 use lib.Dec.{eqb}
 use lib.ListN.{length, set}
 use lib.Seq.{sets}
-use Rattle.machine.specs.Valid.{valid, machine-number, first-of}
+use Rattle.machine.specs.Valid.{valid, machine-number}
 use Rattle.machine.proofs.Validity.{valid-passes}
 use Rattle.step.specs.Step.{Outcome}
 use Rattle.machine.specs.declared.Machine.{Machine}
 use Rattle.tape.specs.Tape.{record-size, read, record-at}
+use Rattle.tape.specs.FirstBad.{found, bad-record}
 use Rattle.tape.specs.declared.Read.{Read}
 use Rattle.tape.specs.declared.Read.the-variants.{Record, Refused}
 use Rattle.laws_keeping.proofs.Keeping.{keeps}
 use Rattle.run.specs.Inner.{filled}
-use Rattle.run.specs.Run.{Result, result, in-front, goes-on, reads, counted, one, play, tape-number, run}
+use Rattle.run.specs.Run.{Result, result, refused, in-front, goes-on, reads, counted, one, play, run}
 
 -- an event that the run goes on after is counted, another is not
 pub is-counted : (o : Outcome) (k : ℕ) → goes-on (o .done .answer) ≡ true
@@ -41,6 +42,12 @@ pub one-answer : (r : Read) (m : Machine) (mem : List ℕ) (k : ℕ) → one r m
 unfolding one counted
 one-answer (Refused n) m mem k = refl
 one-answer (Record w e) m mem k = refl
+
+-- and its index is its count
+pub one-index : (r : Read) (m : Machine) (mem : List ℕ) (k : ℕ) → one r m mem k .ended .index ≡ one r m mem k .ended .count
+unfolding one counted
+one-index (Refused n) m mem k = refl
+one-index (Record w e) m mem k = refl
 
 -- the end of the tape, and one turn before it
 module _ (tape : List ℕ) (k : ℕ) (m : Machine) (mem : List ℕ) where
@@ -80,16 +87,20 @@ module _ (tape : List ℕ) (k : ℕ) (m : Machine) (mem : List ℕ) where
       let e : suc k ≡ k + 1 = omega arith in
       ap (filled old k) (play-goes n h p) ∙ (λ j. filled (set old k (turn .ended .answer)) (e j) rest)
 
--- a run whose tests pass plays its records, another does nothing
+-- a run does nothing where the machine or a record is refused, and else plays its records
 module _ (m : Machine) (mem tape : List ℕ) where
-  pub run-refused : (n : ℕ) → first-of (machine-number m (length mem)) (tape-number tape) ≡ n → eqb n 0 ≡ false → run m mem tape ≡ result n 0 m mem []
+  pub run-unready : (n : ℕ) → machine-number m (length mem) ≡ n → eqb n 0 ≡ false → run m mem tape ≡ refused (found n 0) m mem
   unfolding run
-  run-refused n p z = simp (p, z)
+  run-unready n p z = simp (p, z)
 
-  pub run-plays : valid m (length mem) ≡ true → eqb (length tape % record-size) 0 ≡ true
+  pub run-bad : machine-number m (length mem) ≡ 0 → eqb (bad-record tape .answer) 0 ≡ false → run m mem tape ≡ refused (bad-record tape) m mem
+  unfolding run
+  run-bad p z = simp (p, z)
+
+  pub run-plays : valid m (length mem) ≡ true → bad-record tape .answer ≡ 0
       → run m mem tape ≡ play (reads tape 0 (length tape / record-size)) 0 m mem
   unfolding run
-  run-plays v r = simp (valid-passes m (length mem) v, r)
+  run-plays v z = simp (valid-passes m (length mem) v, eq-eqb (bad-record tape .answer) 0 z)
 
 -- the machine stays valid and memory as long as it was
 pub one-keeps : (r : Read) (m : Machine) (mem : List ℕ) (k : ℕ) → valid m (length mem) ≡ true

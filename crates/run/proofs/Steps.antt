@@ -1,6 +1,6 @@
 -- A run is its steps.
 use mathlib.Core.Path.{_≡_, refl, sym, ap, _∙_, subst}
-use mathlib.Core.Bool.{Bool, true, false, true≢false}
+use mathlib.Core.Bool.{Bool, true, false, not, true≢false}
 use mathlib.Core.List.{List, [], _∷_, _++_}
 use Prim.Native.Nat.{ℕ, zero, suc, _+_, _-_, _/_}
 use native.Mathlib.Omega.{arith}
@@ -10,16 +10,17 @@ use lib.ListN.{length}
 use Rattle.base.proofs.Below.{fork}
 use Rattle.event.specs.declared.Event.{Event}
 use Rattle.machine.specs.Machine.{thread}
-use Rattle.machine.specs.Valid.{machine-number, first-of}
+use Rattle.machine.specs.Valid.{machine-number}
 use Rattle.refusal.specs.Refusal.{refusal}
 use Rattle.step.specs.Step.{Outcome, outcome, perform, step}
 use Rattle.step.specs.Feed.{Fed, feed, from}
 use Rattle.machine.specs.declared.Machine.{Machine}
 use Rattle.step.proofs.Laws.{step-refused, step-passed}
 use Rattle.tape.specs.Tape.{record-size, read, record-at}
+use Rattle.tape.specs.FirstBad.{found, bad-record}
 use Rattle.tape.specs.declared.Read.{Read}
 use Rattle.tape.specs.declared.Read.the-variants.{Record, Refused}
-use Rattle.run.specs.Run.{Result, result, in-front, goes-on, reads, counted, one, play, tape-number, run}
+use Rattle.run.specs.Run.{Result, refused, in-front, goes-on, reads, counted, one, play, run}
 use Rattle.run.specs.Steps.{fed, events, all-go, RunIsSteps, StopChangesNothing, CountedWent, Stops}
 use Rattle.run.proofs.Laws.{uncounted, play-stops, play-goes}
 use Rattle.run.proofs.Answers.{effect-done}
@@ -122,8 +123,10 @@ run-after : (m : Machine) (mem tape : List ℕ) → After tape 0 (outcome 0 m me
 unfolding run
 run-after m mem tape =
     let o = outcome 0 m mem in
-    let n = first-of (machine-number m (length mem)) (tape-number tape) in
-    fork (After tape 0 o) (eqb n 0) (λ e. steps (length tape / record-size) tape 0 o) (λ e. nothing tape 0 o (result n 0 m mem []) refl refl refl)
+    let n = machine-number m (length mem) in
+    fork (After tape 0 o) (not (eqb n 0)) (λ e. nothing tape 0 o (refused (found n 0) m mem) refl refl refl)
+    (λ e. fork (After tape 0 o) (not (eqb (bad-record tape .answer) 0)) (λ b. nothing tape 0 o (refused (bad-record tape) m mem) refl refl refl)
+    (λ b. steps (length tape / record-size) tape 0 o))
 
 pub run-is-steps : RunIsSteps
 run-is-steps m mem tape =

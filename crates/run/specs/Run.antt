@@ -1,26 +1,32 @@
 -- A tape run on a machine, record by record (rules R1 to R4).
-use Prim.Native.Nat.{ℕ, zero, suc, _+_, _/_, _%_}
-use mathlib.Core.Bool.{Bool, cond, _||_}
+use Prim.Native.Nat.{ℕ, zero, suc, _+_, _/_}
+use mathlib.Core.Bool.{Bool, not, cond, _||_}
 use mathlib.Core.List.{List, [], _∷_}
 use lib.Dec.{eqb}
 use lib.ListN.{length}
 use Rattle.base.specs.Answers as answer
-use Rattle.machine.specs.Valid.{machine-number, first-of}
+use Rattle.machine.specs.Valid.{machine-number}
 use Rattle.step.specs.Step.{Outcome, step}
 use Rattle.machine.specs.declared.Machine.{Machine}
 use Rattle.tape.specs.Tape.{record-size, read, record-at}
+use Rattle.tape.specs.FirstBad.{found, bad-record}
+use Rattle.tape.specs.declared.Found.{Found}
 use Rattle.tape.specs.declared.Read.{Read}
 use Rattle.tape.specs.declared.Read.the-variants.{Record, Refused}
 use Rattle.run.specs.declared.Ended.{Ended}
 
--- what a run leaves: its answer and count with the machine, memory, and the answers of the records read, the stopping one too
+-- what a run leaves: its answer, count and index with the machine, memory, and the answers of the events done, the stopping one's too
 pub record Result : Type 0 where
   pub ended : Ended
   pub memory : List ℕ
   pub answers : List ℕ
 
 abbrev pub result : ℕ → ℕ → Machine → List ℕ → List ℕ → Result
-result n k m mem given = record { ended = record { answer = n; count = k; machine = m }; memory = mem; answers = given }
+result n k m mem given = record { ended = record { answer = n; count = k; index = k; machine = m }; memory = mem; answers = given }
+
+-- a tape that is refused as a whole: nothing is done, and the index is that of the bad record
+abbrev pub refused : Found → Machine → List ℕ → Result
+refused f m mem = record { ended = record { answer = f .answer; count = 0; index = f .index; machine = m }; memory = mem; answers = [] }
 
 -- the same with one more answer in front
 abbrev pub in-front : ℕ → Result → Result
@@ -53,12 +59,10 @@ play (r ∷ rs) k m mem =
     let rest = play rs (k + 1) (o .ended .machine) (o .memory) in
     cond (eqb (o .ended .count) k) o (in-front (o .ended .answer) rest)
 
--- number 6: a tape's length is no multiple of 16
-abbrev pub tape-number : List ℕ → ℕ
-tape-number tape = cond (eqb (length tape % record-size) 0) answer.done answer.tape-length
-
--- the tests of the whole, 1, 2 and 6, come before any record, and where there is none
+-- 1 and 2, then the first bad record of the whole tape, and only where there is none the records
 unfoldable pub run : Machine → List ℕ → List ℕ → Result
 run m mem tape =
-    let n = first-of (machine-number m (length mem)) (tape-number tape) in
-    cond (eqb n 0) (play (reads tape 0 (length tape / record-size)) 0 m mem) (result n 0 m mem [])
+    let n = machine-number m (length mem) in
+    cond (not (eqb n 0)) (refused (found n 0) m mem)
+    (cond (not (eqb (bad-record tape .answer) 0)) (refused (bad-record tape) m mem)
+    (play (reads tape 0 (length tape / record-size)) 0 m mem))

@@ -11,10 +11,11 @@ use Rattle.step.specs.Step.{Outcome, outcome, step}
 use Rattle.step.specs.Feed.{Fed, from, after, feed}
 use Rattle.machine.specs.declared.Machine.{Machine}
 use Rattle.event.specs.declared.Event.{Event}
-use Rattle.tape.specs.Tape.{record-size, read, record-at}
+use Rattle.tape.specs.Tape.{record-size, read, number, record-at}
+use Rattle.tape.specs.FirstBad.{bad-record}
 use Rattle.tape.specs.declared.Read.{Read}
 use Rattle.tape.specs.declared.Read.the-variants.{Record, Refused}
-use Rattle.run.specs.Run.{Result, goes-on, reads, run}
+use Rattle.run.specs.Run.{Result, refused, goes-on, reads, run}
 
 -- the event of a record, if it is one
 abbrev pub fed : Read → List Fed
@@ -62,11 +63,25 @@ EndsAt n tape r =
     ((r .ended .count ≡ n) × (r .ended .answer ≡ 0))
     ⊎ ((r .ended .count < n) × Stops (read (record-at tape (r .ended .count))) (r .ended .machine) (r .memory) (r .ended .answer))
 
--- so a run stops at the first record that is refused, and at no other
+-- so the run of a tape without a bad record stops at the first event that is refused, and at no other
 abbrev pub EndsFirst : Type 0
 EndsFirst =
-    (m : Machine) (mem tape : List ℕ) → valid m (length mem) ≡ true → eqb (length tape % record-size) 0 ≡ true
+    (m : Machine) (mem tape : List ℕ) → valid m (length mem) ≡ true → bad-record tape .answer ≡ 0
     → EndsAt (length tape / record-size) tape (run m mem tape)
+
+-- a bad record keeps the whole tape from being run: nothing changes, and number and index are those of the first one
+abbrev pub BadRefused : Type 0
+BadRefused =
+    (m : Machine) (mem tape : List ℕ) → valid m (length mem) ≡ true → (bad-record tape .answer ≡ 0 → ⊥)
+    → run m mem tape ≡ refused (bad-record tape) m mem
+
+-- the first bad record of a tape of whole records is one that the reader refuses by its number, and none before it is refused
+abbrev pub FirstBad : Type 0
+FirstBad =
+    (tape : List ℕ) → length tape % record-size ≡ 0 → (bad-record tape .answer ≡ 0 → ⊥)
+    → (bad-record tape .index < length tape / record-size)
+    × (number (read (record-at tape (bad-record tape .index))) ≡ bad-record tape .answer)
+    × ((i : ℕ) → i < bad-record tape .index → number (read (record-at tape i)) ≡ 0)
 
 -- the answers of a run over n records: one for each, or one for each that is counted and one more, which is the run's
 abbrev pub Answered : ℕ → Result → Type 0
@@ -77,5 +92,5 @@ Answered n r =
 -- so a run has an answer for each record done and, where a record stopped it, that one's
 abbrev pub OneAnswerEach : Type 0
 OneAnswerEach =
-    (m : Machine) (mem tape : List ℕ) → valid m (length mem) ≡ true → eqb (length tape % record-size) 0 ≡ true
+    (m : Machine) (mem tape : List ℕ) → valid m (length mem) ≡ true → bad-record tape .answer ≡ 0
     → Answered (length tape / record-size) (run m mem tape)

@@ -20,10 +20,12 @@ use rows::HEAD;
 use tape::RECORD_SIZE;
 use tape::Read;
 
-// The answer that ended the run (0 at the tape's end), how many records were done, and the machine after exactly those.
+// The answer that ended the run (0 at the tape's end), how many records were done, the index of the record that the answer is about, and the
+// machine after exactly the records done.
 pub struct Ended {
     pub answer: u8,
     pub count: usize,
+    pub index: usize,
     pub machine: Machine,
 }
 
@@ -193,12 +195,13 @@ fn run_valid(m: Machine, mem: &mut [u64], tape: &[u8], answers: &mut [u8]) -> En
     Ended {
         answer: s.answer,
         count: s.count,
+        index: s.count,
         machine: n,
     }
 }
 
-// Any machine, memory and bytes may be handed in. The tests 1, 2 and 6 come first, also for an empty tape.
-// The answer of record k goes to place k of answers, the stopping record's too; no other place changes.
+// Any machine, memory and bytes may be handed in. The tests 1 and 2 come first, and then the whole tape is read, also an empty one. A bad record
+// keeps all of it from being run. The answer of record k goes to place k of answers, the stopping record's too; no other place changes.
 pub fn run(m: Machine, mem: &mut [u64], tape: &[u8], answers: &mut [u8]) -> Ended
     ensures { λ r. ⌜ r ≡ run m (now (mem .entry)) (now (tape .entry)) .ended ⌝ }
     ensures { λ r. ⌜ now (mem .exit) ≡ run m (now (mem .entry)) (now (tape .entry)) .memory ⌝ }
@@ -209,13 +212,16 @@ pub fn run(m: Machine, mem: &mut [u64], tape: &[u8], answers: &mut [u8]) -> Ende
         return Ended {
             answer: number,
             count: 0,
+            index: 0,
             machine: m,
         };
     }
-    if tape.len() % RECORD_SIZE != 0 {
+    let found = tape::whole::bad_record(tape);
+    if found.answer != answer::DONE {
         return Ended {
-            answer: answer::TAPE_LENGTH,
+            answer: found.answer,
             count: 0,
+            index: found.index,
             machine: m,
         };
     }

@@ -1,13 +1,14 @@
 -- The first record that has a number: here, later, or none; and what is known of all records where none has one.
 use mathlib.Core.Path.{_≡_, refl, sym, ap, _∙_}
-use mathlib.Core.Bool.{Bool, true, false}
+use mathlib.Core.Bool.{Bool, true, false, cond}
 use mathlib.Core.List.{List}
 use Prim.Native.Nat.{ℕ, zero, suc, _+_, _-_, _<_, _≤_}
 use native.Mathlib.Omega.{arith}
-use lib.Dec.{eqb}
-use borrow.Author.Tests.{eq-eqb, ne-eqb, eqb-true, eqb-false}
+use lib.Dec.{eqb, ltb}
+use borrow.Author.Tests.{eq-eqb, ne-eqb, eqb-true, eqb-false, ltb-true, ltb-false}
 use Rattle.tape.specs.Tape.{record-at}
 use Rattle.tape.specs.FirstBad.{found, first-bad}
+use Rattle.tape.specs.declared.Found.{Found}
 
 module _ (f : List ℕ → ℕ) (tape : List ℕ) where
   pub bad-none : (k n : ℕ) → n ≤ 0 → first-bad f tape k n ≡ found 0 k
@@ -53,3 +54,28 @@ module _ (f : List ℕ → ℕ) (tape : List ℕ) where
       let e : k + 1 + n ≡ k + suc n = omega arith in
       simp (eq-eqb (f (record-at tape k)) 0 p)
       (none-bad n (k + 1) (λ i h. let b : k + 1 + i ≡ k + suc i = omega arith in ap (λ (m : ℕ). f (record-at tape m)) b ∙ g (suc i) (omega arith)) ∙ ap (found 0) e)
+
+  -- the one that is found has its number, and those before it have none
+  abbrev pub Is-first : ℕ → ℕ → Found → Type 0
+  Is-first k n x = (x .index < k + n) × (f (record-at tape (x .index)) ≡ x .answer) × ((i : ℕ) → k ≤ i → i < x .index → f (record-at tape i) ≡ 0)
+
+  -- from one place earlier on
+  before : (k i m : ℕ) → f (record-at tape k) ≡ 0 → ((j : ℕ) → k + 1 ≤ j → j < m → f (record-at tape j) ≡ 0) → k ≤ i → i < m → f (record-at tape i) ≡ 0
+  before k i m z later lo hi = go (ltb k i) refl
+    where
+      go : (c : Bool) → ltb k i ≡ c → f (record-at tape i) ≡ 0
+      go true p = later i (let q = ltb-true k i p in omega arith) hi
+      go false p = let e : i ≡ k = let q = ltb-false k i p in omega arith in ap (λ (j : ℕ). f (record-at tape j)) e ∙ z
+
+  pub first-found : (n k : ℕ) → (first-bad f tape k n .answer ≡ 0 → ⊥) → Is-first k n (first-bad f tape k n)
+  unfolding first-bad
+  first-found zero k b = absurd (b refl)
+  first-found (suc n) k b = go (eqb (f (record-at tape k)) 0) refl (first-found n (k + 1)) b
+    where
+      go : (c : Bool) → eqb (f (record-at tape k)) 0 ≡ c → ((first-bad f tape (k + 1) n .answer ≡ 0 → ⊥) → Is-first (k + 1) n (first-bad f tape (k + 1) n))
+          → (cond c (first-bad f tape (k + 1) n) (found (f (record-at tape k)) k) .answer ≡ 0 → ⊥)
+          → Is-first k (suc n) (cond c (first-bad f tape (k + 1) n) (found (f (record-at tape k)) k))
+      go true p rest b =
+          let r = rest b in
+          (omega (arith, r .0), r .1, λ i lo hi. before k i (first-bad f tape (k + 1) n .index) (eqb-true _ 0 p) (r .2) lo hi)
+      go false p rest b = (omega arith, refl, λ i lo hi. absurd (omega arith))

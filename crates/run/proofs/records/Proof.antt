@@ -15,7 +15,7 @@ use Rattle.tape.specs.Tape.{read, record-at}
 use Rattle.tape.proofs.Laws.{part-is}
 use Rattle.run.specs.Inner.{filled}
 use Rattle.run.specs.Run.{Result, result, reads, one, play}
-use Rattle.run.proofs.Laws.{play-none, fills-stops, fills-goes, one-keeps}
+use Rattle.run.proofs.Laws.{play-none, fills-stops, fills-goes, one-index, one-keeps}
 use Rattle.run.proofs.records.Statement.{statement}
 use Rattle.run.proofs.records.Tie as tie
 
@@ -131,6 +131,11 @@ returns c =
     let t = turned o in
     let s = start l .args in
     (λ j. result (t j .ended .answer) (t j .ended .count) (t j .ended .machine) (t j .memory) (answered p j))
+    ∙ (λ j. record {
+      ended = record { answer = turn l .ended .answer; count = turn l .ended .count; index = sym (one-index (read (record-at (s .tape .now) (l .loop .k))) (machine-at l) (l .loop .mem) (l .loop .k)) j; machine = turn l .ended .machine };
+      memory = turn l .memory;
+      answers = set (l .loop .answers) (l .loop .k) (turn l .ended .answer);
+    })
     ∙ sym
     (l .loop .inv .3
     ∙ fills-stops (s .tape .now) (l .loop .k) (machine-at l) (l .loop .mem) (l .loop .answers) _ (omega (arith, within o))

@@ -57,7 +57,7 @@ returns : tie.Need-returns
 returns c =
     let r = c .before .before .before .before .before .before .before .before .before .before .before .before in
     let w = left r in (
-      (λ j. record { answer = r .records .result .answer; count = r .records .result .count; machine = c .lifted .ensures j }) ∙ ap (λ (x : Result). x .ended) w,
+      (λ j. record { answer = r .records .result .answer; count = r .records .result .count; index = r .records .result .count; machine = c .lifted .ensures j }) ∙ ap (λ (x : Result). x .ended) w,
       (ap (λ (x : Result). x .memory) w, ap (λ (x : Result). x .answers) w),
     )
 
