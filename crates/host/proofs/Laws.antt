@@ -11,7 +11,8 @@ use Rattle.refusal.specs.Refusal.{refusal}
 use Rattle.step.specs.Step.{Outcome, outcome, step}
 use Rattle.event.specs.declared.Event.{Event}
 use Rattle.event.specs.declared.Fields.{Fields}
-use Rattle.tape.specs.Tape.{bytes, of-kind, read}
+use Rattle.tape.specs.Tape.{bytes, of-kind, read, number}
+use Rattle.tape.specs.FirstBad.{first-bad, bad-record}
 use Rattle.tape.specs.declared.Read.{Read}
 use Rattle.tape.specs.declared.Read.the-variants.{Record}
 use Rattle.tape.proofs.Laws.{begun-right}
@@ -46,9 +47,9 @@ fields-read f fit = begun-right (bytes f) (sized f) refl ∙ ap (λ (g : Fields)
 
 pub run-of-one : (m : Machine) (mem : List ℕ) (f : Fields) (w : ℕ) (e : Event) → FieldsFit f → of-kind f true ≡ Record w e
     → lone m mem f ≡ step m mem w e
-unfolding run reads bytes
+unfolding run reads bytes bad-record first-bad
 run-of-one m mem f w e fit p = go (eqb (machine-number m (length mem)) 0) refl
   where
     go : (b : Bool) → eqb (machine-number m (length mem)) 0 ≡ b → lone m mem f ≡ step m mem w e
-    go true z = simp z (ap (λ (r : Read). left (play (r ∷ []) 0 m mem)) (fields-read f fit ∙ p) ∙ played m mem w e _ refl)
+    go true z = simp (z, ap number (fields-read f fit ∙ p)) (ap (λ (r : Read). left (play (r ∷ []) 0 m mem)) (fields-read f fit ∙ p) ∙ played m mem w e _ refl)
     go false z = simp z (refused m mem w e z)

@@ -22,7 +22,7 @@ use Rattle.host.specs.declared.RawRecord.{RawRecord}
 
 -- version four above, the change requests that have landed below; src/lib.rt has the same number for the code
 abbrev pub version : ℕ
-version = 0x00040005
+version = 0x00040006
 
 -- the numbers 1 and 2 of any bits: bits that are no machine are 2 where the size is right
 unfoldable pub number : RawMachine → ℕ → ℕ
@@ -54,19 +54,19 @@ event-read f = tape.of-kind f true
 unfoldable pub step : RawMachine → List ℕ → Fields → RawOutcome
 step m mem f = met f (event-read f) m mem
 
--- what a run leaves: its answer and count with the machine, and memory
+-- what a run leaves: its answer, count and index with the machine, and memory
 pub record RawResult : Type 0 where
   pub ended : RawEnded
   pub memory : List ℕ
 
-abbrev pub result : ℕ → ℕ → RawMachine → List ℕ → RawResult
-result n k m mem = record { ended = record { answer = n; count = k; machine = m }; memory = mem }
+abbrev pub result : ℕ → ℕ → ℕ → RawMachine → List ℕ → RawResult
+result n k i m mem = record { ended = record { answer = n; count = k; index = i; machine = m }; memory = mem }
 
 abbrev pub crossed-result : tape-run.Result → RawResult
-crossed-result r = result (r .ended .answer) (r .ended .count) (raw-machine (r .ended .machine)) (r .memory)
+crossed-result r = result (r .ended .answer) (r .ended .count) (r .ended .index) (raw-machine (r .ended .machine)) (r .memory)
 
 unfoldable pub run : RawMachine → List ℕ → List ℕ → RawResult
-run m mem bytes = cond (right m) (crossed-result (tape-run.run (machine-of m) mem bytes)) (result (number m (length mem)) 0 m mem)
+run m mem bytes = cond (right m) (crossed-result (tape-run.run (machine-of m) mem bytes)) (result (number m (length mem)) 0 0 m mem)
 
 -- a record's fields with 0, or a number with zeros
 abbrev pub record-of : Read → RawRecord

@@ -121,6 +121,7 @@ pub extern "C" fn naszeptan_run(m: RawMachine, mem: &mut [u64], tape: &[u8]) -> 
         return RawEnded {
             answer: naszeptan_valid(m, len),
             count: 0,
+            index: 0,
             machine: m,
         };
     }
@@ -129,6 +130,7 @@ pub extern "C" fn naszeptan_run(m: RawMachine, mem: &mut [u64], tape: &[u8]) -> 
     RawEnded {
         answer: ended.answer,
         count: ended.count,
+        index: ended.index,
         machine: crossing::raw_machine(ended.machine),
     }
 }

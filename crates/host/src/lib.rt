@@ -7,7 +7,7 @@ use crossing::RawMachine;
 use event::Fields;
 
 // The version of the rules: the model's version above, the landed change requests below.
-pub const VERSION: u32 = 0x0004_0005;
+pub const VERSION: u32 = 0x0004_0006;
 
 // A step's answer, the threads that failed in it (rule H8: bit v for thread v), and the machine after it.
 #[repr(C)]
@@ -17,11 +17,13 @@ pub struct RawDone {
     pub machine: RawMachine,
 }
 
-// The answer that ended a run, how many records were done, and the machine after exactly those.
+// The answer that ended a run, how many records were done, the index of the record that the answer is about, and the machine after exactly
+// the records done.
 #[repr(C)]
 pub struct RawEnded {
     pub answer: u8,
     pub count: usize,
+    pub index: usize,
     pub machine: RawMachine,
 }
 

@@ -1,6 +1,6 @@
 -- The promises of the two editions: of one record, of a tape converted, of a tape of the other edition, and of a converted tape that is run.
 use mathlib.Core.Path.{_≡_, refl, sym, ap, subst, _∙_}
-use mathlib.Core.Bool.{Bool, true, false, cond}
+use mathlib.Core.Bool.{Bool, true, false, not, cond}
 use mathlib.Core.List.{List, [], _∷_, _++_}
 use Prim.Native.Nat.{ℕ, zero, suc, _+_, _-_, _*_, _/_, _%_, _≤_, _<_}
 use native.Mathlib.Nat.{zero-add}
@@ -14,7 +14,7 @@ use Rattle.event.specs.Event.{fields-of}
 use Rattle.event.specs.declared.Event.{Event}
 use Rattle.tape.specs.Tape as three
 use Rattle.tape.specs.Tape.{record-size, first-byte, byte, record-at, number}
-use Rattle.tape.specs.FirstBad.{found}
+use Rattle.tape.specs.FirstBad.{found, read-number, bad-record}
 use Rattle.tape.specs.declared.Read.{Read}
 use Rattle.tape.specs.declared.Read.the-variants.{Record, Refused}
 use Rattle.tape.proofs.Laws.{over-all}
@@ -28,10 +28,10 @@ use Rattle.editions.specs.declared.Edition.the-variants.{Two, Three}
 use Rattle.tape.specs.declared.Found.{Found}
 use Rattle.editions.proofs.Laws.{record-of, length-bytes, length-turned, length-all-turned}
 use Rattle.laws_round.specs.Round.{Bytes}
-use Rattle.machine.specs.Valid.{machine-number, first-of}
+use Rattle.machine.specs.Valid.{machine-number}
 use Rattle.machine.specs.declared.Machine.{Machine}
 use Rattle.run.specs.Run as tape-run
-use Rattle.run.specs.Run.{Result, result, play, tape-number, run}
+use Rattle.run.specs.Run.{Result, refused, play, run}
 use Rattle.laws_editions.specs.Promises.{ReadsWritten, WritesRead, OneRecord, KeepsRest, KeepsPast, SameEvents, ThereAndBack, Begins, OtherRefused, reads, Replays}
 use Rattle.laws_editions.proofs.Layouts.{record-read, record-bytes, record-has, record-fits}
 
@@ -312,15 +312,8 @@ read-same tape all (suc n) k g =
     let rest = read-same tape all n (k + 1) (λ i h. let e : k + 1 + i ≡ k + suc i = omega arith in (λ j. three.read (record-at all (e j))) ∙ g (suc i) (omega arith) ∙ (λ j. read Two (record-at tape (sym e j)))) in
     λ j. one j ∷ rest j
 
-first-of-0 : (k : ℕ) → first-of k 0 ≡ k
-first-of-0 k = go (eqb k 0) refl
-  where
-    go : (b : Bool) → eqb k 0 ≡ b → cond b 0 k ≡ k
-    go true p = sym (eqb-true k 0 p)
-    go false p = refl
-
 pub replays : Replays
-unfolding run read
+unfolding run read bad-record
 replays m mem tape buf h z =
     let n = length tape / record-size in
     let q = passed Two tape buf z in
@@ -330,6 +323,11 @@ replays m mem tape buf h z =
     read-same tape a n 0
     (from-0 (λ i. three.read (record-at a i) ≡ read Two (record-at tape i)) n
     (λ i lt. ap three.read (turned-at Two tape n (q .good) i lt) ∙ turned-same Two (record-at tape i) (record-bytes-fit tape i h) (q .good i lt))) in
+    let none =
+    none-bad read-number a n 0
+    (from-0 (λ i. read-number (record-at a i) ≡ 0) n
+    (λ i lt. ap read-number (turned-at Two tape n (q .good) i lt) ∙ ap number (there-read Two (record-at tape i) (record-bytes-fit tape i h) (q .good i lt)))) in
+    let k = machine-number m (length mem) in
     ap (run m mem) (left-front Two tape buf z)
-    ∙ simp (l, eq-eqb (length tape % record-size) 0 (q .whole), first-of-0 (machine-number m (length mem)))
-    (ap (λ (rs : List Read). cond (eqb (machine-number m (length mem)) 0) (play rs 0 m mem) (result (machine-number m (length mem)) 0 m mem [])) same)
+    ∙ simp (l, eq-eqb (length tape % record-size) 0 (q .whole), none)
+    (ap (λ (rs : List Read). cond (not (eqb k 0)) (refused (found k 0) m mem) (play rs 0 m mem)) same)

@@ -1,7 +1,7 @@
 -- What is promised of the two editions of the tape (rules T8 to T13): round trips of a record in each, conversion there and back, a tape of the
 -- other edition, and a converted tape that is run. Proved in proofs/Promises.antt.
 use mathlib.Core.Path.{_≡_}
-use mathlib.Core.Bool.{cond}
+use mathlib.Core.Bool.{not, cond}
 use mathlib.Core.List.{List, [], _∷_}
 use Prim.Native.Nat.{ℕ, zero, suc, _+_, _/_, _%_, _≤_, _<_}
 use lib.Dec.{eqb}
@@ -19,7 +19,7 @@ use Rattle.editions.specs.declared.Edition.the-variants.{Two, Three}
 use Rattle.laws_round.specs.Round.{FieldsFit, Bytes}
 use Rattle.machine.specs.Valid.{machine-number}
 use Rattle.machine.specs.declared.Machine.{Machine}
-use Rattle.run.specs.Run.{Result, result, play, run}
+use Rattle.run.specs.Run.{Result, refused, play, run}
 
 -- ---- one record, in either edition
 
@@ -88,4 +88,4 @@ abbrev pub Replays : Type 0
 Replays =
     (m : Machine) (mem tape buf : List ℕ) → Bytes tape → convert-answer Two tape buf .answer ≡ 0
     → run m mem (take (length tape) (convert Two tape buf))
-    ≡ cond (eqb (machine-number m (length mem)) 0) (play (reads Two tape 0 (length tape / record-size)) 0 m mem) (result (machine-number m (length mem)) 0 m mem [])
+    ≡ cond (not (eqb (machine-number m (length mem)) 0)) (refused (found (machine-number m (length mem)) 0) m mem) (play (reads Two tape 0 (length tape / record-size)) 0 m mem)

@@ -25,7 +25,7 @@ use Rattle.crossing.specs.declared.RawMachine.{RawMachine}
 abbrev pub NoMachine : Type 0
 NoMachine =
     (m : RawMachine) (mem : List ℕ) → right m ≡ false → sized (machine-of m) (length mem) ≡ true
-    → ((f : Fields) → step m mem f ≡ outcome 2 m mem) × ((bytes : List ℕ) → run m mem bytes ≡ result 2 0 m mem)
+    → ((f : Fields) → step m mem f ≡ outcome 2 m mem) × ((bytes : List ℕ) → run m mem bytes ≡ result 2 0 0 m mem)
 
 -- a refused event leaves the host's bits and memory untouched, and no one failed
 abbrev pub StopChangesNothing : Type 0

@@ -20,11 +20,12 @@ use Rattle.machine.specs.declared.Machine.{Machine}
 use Rattle.machine.proofs.Validity.{valid-passes}
 use Rattle.laws_keeping.proofs.Keeping.{keeps}
 use Rattle.tape.specs.Tape.{record-size, read, record-at}
+use Rattle.tape.specs.FirstBad.{bad-record}
 use Rattle.tape.specs.declared.Read.{Read}
 use Rattle.tape.specs.declared.Read.the-variants.{Record, Refused}
 use Rattle.run.specs.Run.{Result, result, in-front, goes-on, reads, counted, one, play, run}
 use Rattle.run.specs.Steps.{events}
-use Rattle.run.proofs.Laws.{run-refused, run-plays}
+use Rattle.run.proofs.Laws.{run-bad, run-plays}
 use Rattle.run.proofs.Steps.{stop-refused}
 use Rattle.run.proofs.Counts.{ends-first}
 use Rattle.laws_secrecy.specs.Secrecy.{Alike, Agree, tells, allowed, Until}
@@ -92,7 +93,7 @@ module _ (w : ℕ) (rs : List Read) (rest : Rest w rs) (k c : ℕ) where
           → SameRun w (play rs k (o .done .machine) (o .memory)) (play rs k (p .done .machine) (p .memory))
       go (inl q) =
           subst (SameRun w (play rs k (o .done .machine) (o .memory))) (λ j. play rs k (q j) (g .memory j))
-          (record { answer = refl; count = refl; memory = refl; answers = refl; machines = inl refl })
+          (record { answer = refl; count = refl; index = refl; memory = refl; answers = refl; machines = inl refl })
       go (inr a) =
           subst (λ (mem : List ℕ). SameRun w (play rs k (o .done .machine) (o .memory)) (play rs k (p .done .machine) mem)) (g .memory)
           (rest k c (o .done .answer) (o .done .machine) (p .done .machine) (o .memory) v
@@ -110,7 +111,7 @@ module _ (w : ℕ) (rs : List Read) (rest : Rest w rs) (k a : ℕ) (m m' : Machi
       let s = agree (quiet (not (eqb v w)) _ (not (tells ev (thread (m .threads) w))) (stop-refused m mem v ev q)) in
       let q' = ap goes-on (sym (s .0)) ∙ q in
       subst₂ (SameRun w) (sym (play-stopped rs k m mem v ev q)) (sym (play-stopped rs k m' mem v ev q'))
-      (record { answer = s .0; count = refl; memory = s .1 .memory; answers = ap (λ (n : ℕ). n ∷ []) (s .0); machines = s .1 .machines })
+      (record { answer = s .0; count = refl; index = refl; memory = s .1 .memory; answers = ap (λ (n : ℕ). n ∷ []) (s .0); machines = s .1 .machines })
 
   goes : (c : ℕ) → goes-on (step m mem v ev .done .answer) ≡ true → play (Record v ev ∷ rs) k m mem .ended .count ≡ k + c
       → Until step w (events (take c (Record v ev ∷ rs))) (outcome a m mem) → SameRun w (play (Record v ev ∷ rs) k m mem) (play (Record v ev ∷ rs) k m' mem)
@@ -127,7 +128,7 @@ module _ (w : ℕ) (rs : List Read) (rest : Rest w rs) (k a : ℕ) (m m' : Machi
       let z = ap (λ (r : Result). r .ended .count) (sym (play-on rs k m mem v ev q)) ∙ e in
       let r = onward w rs rest (k + 1) c o p (keeps m mem v ev h .1) (keeps m' mem v ev h' .1) (s .1) (omega (arith, z)) (x .1) in
       subst₂ (SameRun w) (sym (play-on rs k m mem v ev q)) (sym (play-on rs k m' mem v ev q'))
-      (record { answer = r .answer; count = r .count; memory = r .memory; answers = λ j. s .0 j ∷ r .answers j; machines = r .machines })
+      (record { answer = r .answer; count = r .count; index = r .index; memory = r .memory; answers = λ j. s .0 j ∷ r .answers j; machines = r .machines })
 
   event-same : (c : ℕ) (b : Bool) → goes-on (step m mem v ev .done .answer) ≡ b → play (Record v ev ∷ rs) k m mem .ended .count ≡ k + c
       → Until step w (events (take c (Record v ev ∷ rs))) (outcome a m mem) → SameRun w (play (Record v ev ∷ rs) k m mem) (play (Record v ev ∷ rs) k m' mem)
@@ -136,28 +137,29 @@ module _ (w : ℕ) (rs : List Read) (rest : Rest w rs) (k a : ℕ) (m m' : Machi
 
 runs : (w : ℕ) (rs : List Read) → Rest w rs
 unfolding Rest play
-runs w [] k c a m m' mem h h' l e u = record { answer = refl; count = refl; memory = refl; answers = refl; machines = inr l }
+runs w [] k c a m m' mem h h' l e u = record { answer = refl; count = refl; index = refl; memory = refl; answers = refl; machines = inr l }
 runs w (Refused n ∷ rs) k c a m m' mem h h' l e u =
     subst₂ (SameRun w) (sym (play-refused rs k m mem n)) (sym (play-refused rs k m' mem n))
-    (record { answer = refl; count = refl; memory = refl; answers = refl; machines = inr l })
+    (record { answer = refl; count = refl; index = refl; memory = refl; answers = refl; machines = inr l })
 runs w (Record v ev ∷ rs) k c a m m' mem h h' l e u =
     event-same w rs (runs w rs) k a m m' mem h h' l v ev c (goes-on (step m mem v ev .done .answer)) refl e u
 
--- a tape that is not ragged is played, another is refused by 6
+-- a tape without a bad record is played, another is refused on both sides alike
 pub runs-same : RunsSame
 unfolding Rest
-runs-same w m n mem tape h h' l u = go (eqb (length tape % record-size) 0) refl
+runs-same w m n mem tape h h' l u = go (eqb (bad-record tape .answer) 0) refl
   where
-    go : (b : Bool) → eqb (length tape % record-size) 0 ≡ b → SameRun w (run m mem tape) (run n mem tape)
+    go : (b : Bool) → eqb (bad-record tape .answer) 0 ≡ b → SameRun w (run m mem tape) (run n mem tape)
     go true q =
         let all = length tape / record-size in
         let c = run m mem tape .ended .count in
-        let f : c ≤ all = ⊎-elim (λ x. omega (arith, x .0)) (λ x. omega (arith, x .0)) (ends-first m mem tape h q) in
-        let p = run-plays m mem tape h q in
+        let z = eqb-true _ 0 q in
+        let f : c ≤ all = ⊎-elim (λ x. omega (arith, x .0)) (λ x. omega (arith, x .0)) (ends-first m mem tape h z) in
+        let p = run-plays m mem tape h z in
         let e : c ≡ 0 + c = omega arith in
-        subst₂ (SameRun w) (sym p) (sym (run-plays n mem tape h' q))
+        subst₂ (SameRun w) (sym p) (sym (run-plays n mem tape h' z))
         (runs w (reads tape 0 all) 0 c 0 m n mem h h' l (ap (λ (r : Result). r .ended .count) (sym p) ∙ e)
         (subst (λ (rs : List Read). Until step w (events rs) (outcome 0 m mem)) (sym (take-reads c all tape 0 f)) u))
     go false q =
-        subst₂ (SameRun w) (sym (run-refused m mem tape 6 (simp (valid-passes m _ h, q)) refl)) (sym (run-refused n mem tape 6 (simp (valid-passes n _ h', q)) refl))
-        (record { answer = refl; count = refl; memory = refl; answers = refl; machines = inr l })
+        subst₂ (SameRun w) (sym (run-bad m mem tape (valid-passes m _ h) q)) (sym (run-bad n mem tape (valid-passes n _ h') q))
+        (record { answer = refl; count = refl; index = refl; memory = refl; answers = refl; machines = inr l })

@@ -1,4 +1,4 @@
--- A run over a tape from two machines alike: the same answers, count and memory, and machines that are equal or still alike. Proved in proofs/Runs.antt.
+-- A run over a tape from two machines alike: the same answers, count, index and memory, and machines that are equal or still alike. Proved in proofs/Runs.antt.
 use mathlib.Core.Path.{_≡_}
 use mathlib.Core.Bool.{true}
 use mathlib.Core.Logic.{_⊎_}
@@ -15,6 +15,7 @@ use Rattle.laws_secrecy.specs.Secrecy.{Alike, Until}
 pub record SameRun (w : ℕ) (r s : Result) : Type 0 where
   pub answer : r .ended .answer ≡ s .ended .answer
   pub count : r .ended .count ≡ s .ended .count
+  pub index : r .ended .index ≡ s .ended .index
   pub memory : r .memory ≡ s .memory
   pub answers : r .answers ≡ s .answers
   pub machines : (r .ended .machine ≡ s .ended .machine) ⊎ Alike w (r .ended .machine) (s .ended .machine)

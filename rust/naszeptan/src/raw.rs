@@ -57,7 +57,7 @@ pub const SPR_TEXASRU: u8 = 131;
 /// The version of the rules that this crate was written for: the model's
 /// version in the upper 16 bits, the change requests that have landed in the
 /// lower. [`version`] gives the archive's.
-pub const VERSION: u32 = 0x0004_0005;
+pub const VERSION: u32 = 0x0004_0006;
 
 /// The registers that a checkpoint keeps.
 #[repr(C)]
