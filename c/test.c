@@ -16,7 +16,9 @@ _Static_assert(sizeof(struct naszeptan_machine) == 6696, "machine");
 _Static_assert(sizeof(struct naszeptan_event) == 16, "event");
 _Static_assert(sizeof(struct naszeptan_done) == 6704, "done");
 _Static_assert(offsetof(struct naszeptan_done, failed) == 1, "failed");
-_Static_assert(sizeof(struct naszeptan_ended) == 6712, "ended");
+_Static_assert(sizeof(struct naszeptan_ended) == 6720, "ended");
+_Static_assert(offsetof(struct naszeptan_ended, count) == 8, "count");
+_Static_assert(offsetof(struct naszeptan_ended, index) == 16, "index");
 _Static_assert(sizeof(struct naszeptan_record) == 20, "record");
 _Static_assert(sizeof(struct naszeptan_converted) == 16, "converted");
 _Static_assert(offsetof(struct naszeptan_converted, index) == 8, "index");
@@ -99,6 +101,28 @@ static void refused(struct naszeptan_machine m, size_t len,
   CHECK(memcmp(before, memory, sizeof memory) == 0);
 }
 
+/* The run ends by the number after this many records, and tells this index. */
+static struct naszeptan_machine ends(struct naszeptan_machine m,
+                                     const uint8_t *tape, size_t bytes,
+                                     uint8_t number, size_t count,
+                                     size_t index) {
+  struct naszeptan_ended ended =
+      naszeptan_run(m, memory, NASZEPTAN_MEMORY, tape, bytes);
+  CHECK(ended.answer == number);
+  CHECK(ended.count == count && ended.index == index);
+  return ended.machine;
+}
+
+/* Nothing of the tape is run: machine and memory stay. */
+static void not_run(struct naszeptan_machine m, const uint8_t *tape,
+                    size_t bytes, uint8_t number, size_t index) {
+  static uint64_t before[NASZEPTAN_MEMORY];
+  memcpy(before, memory, sizeof memory);
+  struct naszeptan_machine after = ends(m, tape, bytes, number, 0, index);
+  CHECK(same_machine(&after, &m));
+  CHECK(memcmp(before, memory, sizeof memory) == 0);
+}
+
 static void machines(void) {
   struct naszeptan_machine m = naszeptan_fresh();
   CHECK(naszeptan_version() == NASZEPTAN_VERSION);
@@ -128,10 +152,9 @@ static void bits(void) {
       CHECK(naszeptan_valid(m, NASZEPTAN_MEMORY) == NASZEPTAN_NO_MACHINE);
       refused(m, NASZEPTAN_MEMORY, e, NASZEPTAN_NO_MACHINE);
       refused(m, 17, e, NASZEPTAN_SIZE);
-      struct naszeptan_ended ended =
-          naszeptan_run(m, memory, NASZEPTAN_MEMORY, NULL, 0);
-      CHECK(ended.answer == NASZEPTAN_NO_MACHINE && ended.count == 0);
-      CHECK(same_machine(&ended.machine, &m));
+      not_run(m, NULL, 0, NASZEPTAN_NO_MACHINE, 0);
+      not_run(m, (const uint8_t[17]){0}, 16, NASZEPTAN_NO_MACHINE, 0);
+      not_run(m, (const uint8_t[17]){0}, 17, NASZEPTAN_NO_MACHINE, 0);
     }
   struct naszeptan_machine m;
   memset(&m, 0xFF, sizeof m);
@@ -165,6 +188,13 @@ static void refusals(void) {
   refused(m, NASZEPTAN_MEMORY, event(NASZEPTAN_HOST, 0), NASZEPTAN_HOST_IN_T);
 }
 
+/* The records of these events. */
+static void write_tape(const struct naszeptan_event *events, size_t count,
+                       uint8_t *tape) {
+  for (size_t n = 0; n < count; n++)
+    CHECK(naszeptan_write(events[n], tape + 16 * n, 16) == NASZEPTAN_DONE);
+}
+
 /* A transaction fails because another thread stores to what it has read. */
 static void conflict(void) {
   struct naszeptan_event events[] = {event(NASZEPTAN_TBEGIN, 0), load(0, 4, 0),
@@ -172,16 +202,56 @@ static void conflict(void) {
   uint8_t tape[4 * NASZEPTAN_RECORD_SIZE];
   struct naszeptan_machine m = naszeptan_fresh();
   m.threads[1].live.gpr[5] = 7;
-  for (int n = 0; n < 4; n++)
-    CHECK(naszeptan_write(events[n], tape + 16 * n, 16) == NASZEPTAN_DONE);
-  struct naszeptan_ended ended =
-      naszeptan_run(m, memory, NASZEPTAN_MEMORY, tape, sizeof tape);
-  CHECK(ended.answer == NASZEPTAN_DONE && ended.count == 4);
-  struct naszeptan_control k = ended.machine.threads[0].control;
+  write_tape(events, 4, tape);
+  m = ends(m, tape, sizeof tape, NASZEPTAN_DONE, 4, 4);
+  struct naszeptan_control k = m.threads[0].control;
   CHECK(k.state == NASZEPTAN_N && k.nia == 4);
   CHECK(NASZEPTAN_TEXASR_NON_TRANSACTIONAL_CONFLICT(k.texasr) == 1);
   CHECK(NASZEPTAN_TEXASR_FAILED(k.texasr) == 1);
   CHECK(memory[0] == 7 && memory[16] == 0);
+  memory[0] = 0;
+}
+
+/* Bytes that make a record none, and the numbers that say so. */
+static const struct {
+  size_t place;
+  uint8_t byte, number;
+} spoilt[] = {{0, 0, NASZEPTAN_BAD_FIRST_BYTE},
+              {1, 0, NASZEPTAN_NO_KIND},
+              {15, 1, NASZEPTAN_FIELD}};
+
+/* The record at this index of a good tape of three is made bad in each way. */
+static void spoils(struct naszeptan_machine m, const uint8_t *tape,
+                   size_t index) {
+  for (size_t n = 0; n < 3; n++) {
+    uint8_t bad[3 * 16];
+    memcpy(bad, tape, sizeof bad);
+    bad[16 * index + spoilt[n].place] = spoilt[n].byte;
+    not_run(m, bad, sizeof bad, spoilt[n].number, index);
+    /* 6 comes before all records; and the first of two is told. */
+    not_run(m, bad, sizeof bad - 1, NASZEPTAN_TAPE_LENGTH, 2);
+    bad[16 * 2] = index == 2 ? bad[16 * 2] : 0;
+    not_run(m, bad, sizeof bad, spoilt[n].number, index);
+  }
+}
+
+/* docs/RULES.md, R1: a tape with a bad record is not run, whatever stands
+ * before it. Here that is a store, and then a treclaim. that is refused. */
+static void bad_records(void) {
+  struct naszeptan_event events[] = {
+      store(1, 5, 0), event(NASZEPTAN_TRECLAIM, 0), event(NASZEPTAN_TEND, 0)};
+  uint8_t tape[3 * NASZEPTAN_RECORD_SIZE];
+  struct naszeptan_machine m = naszeptan_fresh();
+  m.threads[0].control.pr = 0;
+  m.threads[1].live.gpr[5] = 7;
+  write_tape(events, 3, tape);
+  for (size_t index = 0; index < 3; index++)
+    spoils(m, tape, index);
+  not_run(m, tape, 1, NASZEPTAN_TAPE_LENGTH, 0);
+  not_run(m, NULL, 0, NASZEPTAN_DONE, 0);
+  /* As it stands, the tape is run up to the treclaim. */
+  ends(m, tape, sizeof tape, NASZEPTAN_BAD_THING, 1, 1);
+  CHECK(memory[0] == 7);
   memory[0] = 0;
 }
 
@@ -490,6 +560,7 @@ int main(void) {
   bits();
   refusals();
   conflict();
+  bad_records();
   failed_itself();
   failed_by_no_commit();
   failed_others();

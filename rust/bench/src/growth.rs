@@ -149,7 +149,7 @@ mod tests {
     fn runs(start: Start, tape: &[u8], records: usize) -> Machine {
         let (mut machine, mut memory) = (start.machine, start.memory);
         let ended = model::run(&mut machine, &mut memory, tape);
-        assert_eq!(ended, (0, records));
+        assert_eq!((ended.answer, ended.count), (0, records));
         machine
     }
 

@@ -3,6 +3,8 @@
 use std::hint::black_box;
 use std::time::Duration;
 
+use model::Ended;
+
 use crate::sides::{hold_equal, Proved, Rust, Side, Start};
 use crate::time::{Spent, Watch};
 
@@ -82,12 +84,12 @@ fn in_turn<A: PartialEq + std::fmt::Debug>(
 
 /// Times one tape, which must run to its end.
 pub fn tape(start: &Start, tape: &[u8], rounds: Rounds) -> Times {
-    fn one<S: Side>(start: &Start, tape: &[u8]) -> Timed<S, (u8, usize)> {
+    fn one<S: Side>(start: &Start, tape: &[u8]) -> Timed<S, Ended> {
         let mut side = S::new(start);
         let watch = Watch::start();
         let ended = black_box(side.run(black_box(tape)));
         let spent = watch.spent();
-        assert_eq!(ended.0, 0, "record {} is refused", ended.1);
+        assert_eq!(ended.answer, 0, "record {} is refused", ended.index);
         (spent, side, ended)
     }
     in_turn(rounds, || one(start, tape), || one(start, tape))

@@ -4,7 +4,7 @@
 use compare::pair::to_raw;
 use compare::sides::{self, Archive, Side as _};
 use model::machine::{Machine, MAX_MEMORY};
-use model::Event;
+use model::{Ended, Event};
 use naszeptan::raw;
 
 /// What both sides start from.
@@ -40,8 +40,8 @@ pub trait Side {
     type Event: Copy;
     fn new(start: &Start) -> Self;
     fn event(thread: u8, e: Event) -> Self::Event;
-    /// The answer that ended the run, and how many records were done.
-    fn run(&mut self, tape: &[u8]) -> (u8, usize);
+    /// How the run ended. The whole tape is read before it is done.
+    fn run(&mut self, tape: &[u8]) -> Ended;
     /// The lone step, which tests the machine first.
     fn step(&mut self, e: Self::Event) -> u8;
     /// That test alone: 0 for a valid machine.
@@ -65,7 +65,7 @@ impl Side for Rust {
         (thread, e)
     }
 
-    fn run(&mut self, tape: &[u8]) -> (u8, usize) {
+    fn run(&mut self, tape: &[u8]) -> Ended {
         model::run(&mut self.0.machine, &mut self.0.memory, tape)
     }
 
@@ -98,7 +98,7 @@ impl Side for Proved {
         sides::event(thread, e)
     }
 
-    fn run(&mut self, tape: &[u8]) -> (u8, usize) {
+    fn run(&mut self, tape: &[u8]) -> Ended {
         Archive.run(&mut self.machine, &mut self.memory, tape)
     }
 

@@ -124,7 +124,7 @@ mod tests {
                 let mut m = Machine::fresh();
                 let mut memory = vec![0; MAX_MEMORY];
                 let ended = run(&mut m, &mut memory, &tape.bytes);
-                assert_eq!(ended, (0, records), "{}", tape.name);
+                assert_eq!((ended.answer, ended.count), (0, records), "{}", tape.name);
             }
         }
     }

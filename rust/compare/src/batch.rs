@@ -13,6 +13,7 @@ use crate::editions;
 use crate::pair::Pair;
 use crate::past::Past;
 use crate::plan::Plan;
+use crate::runs;
 use crate::shrink::Case;
 use crate::sides::{record, Side};
 use crate::sights;
@@ -80,8 +81,8 @@ fn rng(seed: u64, batch: u64) -> Rng {
     Rng::new(seed ^ batch.wrapping_add(1).wrapping_mul(0xD6E8_FEB8_6659_FD93))
 }
 
-/// One batch: this many events in sequences, then the other calls, and those of
-/// edition two.
+/// One batch: this many events in sequences, then runs, the other calls, and
+/// those of edition two.
 fn batch<S: Side>(
     side: &S,
     seed: u64,
@@ -97,6 +98,7 @@ fn batch<S: Side>(
         sequence(side, &mut rng, start, length, counts)?;
         left -= length;
     }
+    runs::all(side, &mut rng, counts)?;
     calls::all(side, &mut rng, counts)?;
     editions::all(side, &mut rng, counts)
 }

@@ -1,17 +1,17 @@
-//! The calls beside the step: valid, run, read and write, and bits that are
-//! no machine, which the model cannot hold.
+//! The calls beside the step and the run: valid, read and write, and bits that
+//! are no machine, which the model cannot hold.
 
 use model::gen::{self, Rng};
-use model::{step_trusted, Done};
+use model::{Done, Ended};
 use naszeptan::raw;
 
 use crate::batch::Found;
 use crate::cells::Call;
 use crate::counts::Counts;
-use crate::pair::{to_raw, Pair};
+use crate::pair::to_raw;
 use crate::plan::damaged;
-use crate::shrink::Case;
-use crate::sides::{self, event, model_valid, Side};
+use crate::runs::loose_bytes;
+use crate::sides::{self, model_valid, Side};
 use crate::start::{Kind, Start};
 
 /// The calls of one batch.
@@ -19,7 +19,6 @@ pub fn all<S: Side>(side: &S, rng: &mut Rng, counts: &mut Counts) -> Result<(), 
     for _ in 0..4 {
         valid(side, rng, counts)?;
         no_machine(side, rng, counts)?;
-        run(side, rng, counts)?;
     }
     for _ in 0..40 {
         read(side, rng, counts)?;
@@ -111,98 +110,15 @@ fn no_machine<S: Side>(side: &S, rng: &mut Rng, counts: &mut Counts) -> Result<(
 
     let tape = loose_bytes(rng);
     let given = side.run(&mut after, &mut lent, &tape);
-    same(|| input("run"), ((right, 0), bits), (given, after))?;
+    let refused = Ended {
+        answer: right,
+        count: 0,
+        index: 0,
+    };
+    same(|| input("run"), (refused, bits), (given, after))?;
     same(|| input("run, memory"), &memory, &lent)?;
     counts.call(Call::BitsRun, right);
     Ok(())
-}
-
-/// Some records, good or not, and often a piece of one.
-fn loose_bytes(rng: &mut Rng) -> Vec<u8> {
-    let mut bytes = Vec::new();
-    for _ in 0..rng.below(3) {
-        bytes.extend(gen::record(rng));
-    }
-    bytes.truncate(bytes.len().saturating_sub(rng.pick([0, 0, 1, 15])));
-    bytes
-}
-
-/// One run, compared at its end: tapes that go on, tapes that are stopped,
-/// ragged ones and empty ones.
-fn run<S: Side>(side: &S, rng: &mut Rng, counts: &mut Counts) -> Result<(), Found> {
-    let start = Start::random(rng);
-    let mut pair = Pair::new(start);
-    let length = rng.pick([0, 0, 1, 2, 20, 60, 120, 500]);
-    let tape = match model_valid(pair.machine(), pair.memory().len()) {
-        0 => gen::tape(rng, pair.machine(), pair.memory(), length),
-        _ => loose_bytes(rng),
-    };
-    let mut records = whole_records(&tape);
-    let mut tail = Vec::new();
-    match rng.below(6) {
-        0..=2 => records.push(stopper(rng, &pair, &records)),
-        3 => spoil_records(rng, &mut records),
-        4 => tail = gen::record(rng)[..rng.pick([1, 8, 15])].to_vec(),
-        _ => {}
-    }
-    let tape = [records.as_flattened(), &tail].concat();
-    match pair.run(side, &tape) {
-        Ok((answer, count)) => {
-            let call = match count {
-                0 => Call::RunNone,
-                _ => Call::RunSome,
-            };
-            counts.call(call, answer);
-            counts.records += count as u64;
-            Ok(())
-        }
-        Err(_) => Err(Found::Tape(Case {
-            start,
-            records,
-            tail: Some(tail),
-        })),
-    }
-}
-
-/// The records of a tape; a ragged end is left out.
-fn whole_records(tape: &[u8]) -> Vec<[u8; 16]> {
-    let records = tape.chunks_exact(16);
-    records
-        .map(|record| record.try_into().expect("16 bytes each"))
-        .collect()
-}
-
-/// A record that stops the run by a number of its own choice where the
-/// records before it leave the machine, if a few tries find one.
-fn stopper(rng: &mut Rng, pair: &Pair, records: &[[u8; 16]]) -> [u8; 16] {
-    let (mut m, mut memory) = (pair.machine().clone(), pair.memory().to_vec());
-    model::run(&mut m, &mut memory, records.as_flattened());
-    let wanted = rng.pick([3, 4, 4, 5, 5, 7, 8, 9, 11, 11, 11, 12, 13, 13]);
-    let mut record = gen::record(rng);
-    for _ in 0..60 {
-        let (thread, e) = gen::event(rng, &m, memory.len());
-        record = match wanted {
-            7..=9 => gen::record(rng),
-            _ => sides::record(event(thread, e)),
-        };
-        let number = match model::read(&record) {
-            Ok((thread, e)) => step_trusted(&mut m.clone(), &mut memory.clone(), thread, e),
-            Err(number) => number,
-        };
-        if number == wanted {
-            break;
-        }
-    }
-    record
-}
-
-/// Changes a byte of a record, or puts one in that may be good or not.
-fn spoil_records(rng: &mut Rng, records: &mut Vec<[u8; 16]>) {
-    let at = rng.below(records.len() + 1);
-    match records.get_mut(at) {
-        Some(record) if rng.flag() => record[rng.below(16)] = rng.byte(),
-        _ => records.insert(at, gen::record(rng)),
-    }
 }
 
 fn read<S: Side>(side: &S, rng: &mut Rng, counts: &mut Counts) -> Result<(), Found> {

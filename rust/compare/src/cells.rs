@@ -233,12 +233,8 @@ pub const CALL_ROWS: [(Call, &str, &[u8]); CALLS] = [
         "run, none done",
         &[0, 1, 2, 3, 4, 5, 6, 7, 8, 9, 11, 12, 13],
     ),
-    // 1, 2 and 6 are tested first: then no record is done.
-    (
-        Call::RunSome,
-        "run, some done",
-        &[0, 3, 4, 5, 7, 8, 9, 11, 12, 13],
-    ),
+    // 1, 2 and 6 to 9 are tested first: then no record is done.
+    (Call::RunSome, "run, some done", &[0, 3, 4, 5, 11, 12, 13]),
     (Call::Read, "read", &[0, 6, 7, 8, 9]),
     (Call::Write, "write", &[0, 8, 9, 10]),
     // A wrong size comes before a wrong bit.

@@ -6,9 +6,9 @@ use model::Done;
 use naszeptan::{raw, Kind, KINDS};
 
 use crate::cells::{self, Before, Call, CALLS, CALL_ROWS, NUMBERS, SHOWN, STATES};
-use crate::editions::cells::Met;
+use crate::editions;
 use crate::masks::{self, Mask, MASKS};
-use crate::sights;
+use crate::{runs, sights};
 
 /// From so many events on, all that can be met must be. Of a quarter of them the
 /// rarest are met three to five times, so that fewer may miss one by chance.
@@ -32,8 +32,10 @@ pub struct Counts {
     calls: [[u64; NUMBERS]; CALLS],
     /// Records done by runs.
     pub records: u64,
+    /// What was met of runs.
+    pub runs: runs::cells::Met,
     /// What was met of edition two.
-    pub editions: Met,
+    pub editions: editions::cells::Met,
 }
 
 impl Default for Counts {
@@ -44,7 +46,8 @@ impl Default for Counts {
             sights: [0; sights::SIGHTS],
             calls: [[0; NUMBERS]; CALLS],
             records: 0,
-            editions: Met::default(),
+            runs: runs::cells::Met::default(),
+            editions: editions::cells::Met::default(),
         }
     }
 }
@@ -97,6 +100,7 @@ impl Counts {
             .chain(&self.sights)
             .chain(self.calls.as_flattened())
             .chain([&self.records])
+            .chain(self.runs.numbers())
             .chain(self.editions.numbers())
             .copied()
             .collect()
@@ -110,6 +114,7 @@ impl Counts {
             .chain(&mut self.sights)
             .chain(self.calls.as_flattened_mut())
             .chain([&mut self.records])
+            .chain(self.runs.numbers_mut())
             .chain(self.editions.numbers_mut())
             .zip(numbers)
             .for_each(|(ours, theirs)| *ours += theirs);
@@ -148,7 +153,7 @@ impl Counts {
             .collect()
     }
 
-    /// Every cell, mask, sight and call, and all of edition two.
+    /// Every cell, mask, sight and call, and all of runs and of edition two.
     fn all(&self) -> impl Iterator<Item = Row> + '_ {
         let sights = self.sights.iter().zip(&sights::ALL);
         let sights = sights.map(|(&met, (_, name, _))| Row {
@@ -160,6 +165,7 @@ impl Counts {
             .chain(self.all_masks())
             .chain(sights)
             .chain(self.all_calls())
+            .chain(self.runs.rows())
             .chain(self.editions.rows())
     }
 
@@ -218,7 +224,7 @@ impl Counts {
         for (met, (_, name, _)) in self.sights.iter().zip(&sights::ALL) {
             let _ = writeln!(text, "{met:>9}  {name}");
         }
-        text + &self.editions.tables()
+        text + &self.runs.table() + &self.editions.tables()
     }
 
     fn write_cells(&self, text: &mut String) -> std::fmt::Result {

@@ -13,7 +13,8 @@
 //! - [`counts`]: how often each was met, and what was not.
 //! - [`batch`]: a numbered piece of the comparison, and a worker's share.
 //! - [`workers`]: the shares, each in a process of its own.
-//! - [`calls`]: valid, run, read and write, and bits that are no machine.
+//! - [`runs`]: tapes, those too of which nothing may be run.
+//! - [`calls`]: valid, read and write, and bits that are no machine.
 //! - [`editions`]: edition two, and the converters between the editions.
 //! - [`shrink`]: the shortest tape that still shows a difference.
 
@@ -29,6 +30,7 @@ pub mod masks;
 pub mod pair;
 pub mod past;
 pub mod plan;
+pub mod runs;
 pub mod shrink;
 pub mod sides;
 pub mod sights;

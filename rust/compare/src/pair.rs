@@ -1,6 +1,6 @@
 //! One machine with its memory on both sides, and where the two differ.
 
-use model::{Done, Machine, Registers, State, Thread};
+use model::{Done, Ended, Machine, Registers, State, Thread};
 use naszeptan::raw;
 
 use crate::sides::{model_step, Side};
@@ -62,15 +62,13 @@ impl Pair {
         self.agree().map(|()| ours)
     }
 
-    /// One tape on both sides: the answer and the count, or where they differ.
-    pub fn run<S: Side>(&mut self, side: &S, tape: &[u8]) -> Result<(u8, usize), String> {
+    /// One tape on both sides: how it ended, or where they differ.
+    pub fn run<S: Side>(&mut self, side: &S, tape: &[u8]) -> Result<Ended, String> {
         let ours = model::run(&mut self.model, &mut self.memory, tape);
         let lent = &mut self.lent[BESIDE..BESIDE + self.memory.len()];
         let theirs = side.run(&mut self.raw, lent, tape);
         if ours != theirs {
-            return Err(format!(
-                "answer and count: model {ours:?}, proved {theirs:?}"
-            ));
+            return Err(format!("run: model {ours:?}, proved {theirs:?}"));
         }
         self.agree().map(|()| ours)
     }

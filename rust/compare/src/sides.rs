@@ -1,7 +1,7 @@
 //! The two sides of the comparison.
 
 use model::tape::{encode, MARK};
-use model::{valid, Done, Edition, Machine};
+use model::{valid, Done, Edition, Ended, Machine};
 use naszeptan::raw;
 
 /// The side under test: the calls of the header. The archive is one; the
@@ -22,11 +22,16 @@ pub trait Side: Sync {
         }
     }
 
-    /// A tape: the answer that ended it, and how many records were done.
-    fn run(&self, m: &mut raw::Machine, memory: &mut [u64], tape: &[u8]) -> (u8, usize) {
+    /// A tape: the answer that ended it, how many records were done, and the
+    /// record that the answer is about.
+    fn run(&self, m: &mut raw::Machine, memory: &mut [u64], tape: &[u8]) -> Ended {
         let ended = raw::run(*m, memory, tape);
         *m = ended.machine;
-        (ended.answer, ended.count)
+        Ended {
+            answer: ended.answer,
+            count: ended.count,
+            index: ended.index,
+        }
     }
 
     /// One record.

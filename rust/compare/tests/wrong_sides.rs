@@ -8,7 +8,7 @@ use compare::shrink::Case;
 use compare::sides::{Archive, Side};
 use compare::start::{Kind, Start};
 use model::machine::{texasr, MAX_LEVEL};
-use model::{Done, Edition};
+use model::{Done, Edition, Ended};
 use naszeptan::raw;
 
 const SEED: u64 = 7;
@@ -241,11 +241,12 @@ fn a_wrong_doubleword_is_shrunk_to_one_store_from_fresh() {
 struct Miscounts;
 
 impl Side for Miscounts {
-    fn run(&self, m: &mut raw::Machine, memory: &mut [u64], tape: &[u8]) -> (u8, usize) {
-        match Archive.run(m, memory, tape) {
-            (13, count) if count > 0 => (13, count - 1),
-            ended => ended,
+    fn run(&self, m: &mut raw::Machine, memory: &mut [u64], tape: &[u8]) -> Ended {
+        let mut ended = Archive.run(m, memory, tape);
+        if ended.answer == 13 && ended.count > 0 {
+            ended.count -= 1;
         }
+        ended
     }
 }
 
@@ -254,6 +255,91 @@ fn a_wrong_run_is_shrunk_to_two_records() {
     let (case, _) = shrunk(&Miscounts);
     assert!(case.tail.is_some());
     assert_eq!(case.records.len(), 2, "{case}");
+}
+
+/// Whether the tape was refused for a record.
+fn is_bad(ended: Ended) -> bool {
+    matches!(ended.answer, 7..=9)
+}
+
+/// Does the events before a bad record.
+struct RunsHalf;
+
+impl Side for RunsHalf {
+    fn run(&self, m: &mut raw::Machine, memory: &mut [u64], tape: &[u8]) -> Ended {
+        let ended = Archive.run(m, memory, tape);
+        if is_bad(ended) {
+            Archive.run(m, memory, &tape[..16 * ended.index]);
+        }
+        ended
+    }
+}
+
+/// Stops at a refused event before it reads what is behind.
+struct ReadsLate;
+
+impl Side for ReadsLate {
+    fn run(&self, m: &mut raw::Machine, memory: &mut [u64], tape: &[u8]) -> Ended {
+        let (mut other, mut copy) = (*m, memory.to_vec());
+        let ended = Archive.run(m, memory, tape);
+        if !is_bad(ended) {
+            return ended;
+        }
+        let before = Archive.run(&mut other, &mut copy, &tape[..16 * ended.index]);
+        match (before.answer, before.count) {
+            (0, _) | (_, 1..) => ended,
+            _ => before,
+        }
+    }
+}
+
+/// Tells the last bad record and not the first.
+struct RunsFromTheEnd;
+
+impl Side for RunsFromTheEnd {
+    fn run(&self, m: &mut raw::Machine, memory: &mut [u64], tape: &[u8]) -> Ended {
+        let ended = Archive.run(m, memory, tape);
+        let answers = tape.chunks(16).map(|record| Archive.read(record).answer);
+        match answers.enumerate().rfind(|(_, answer)| *answer != 0) {
+            Some((index, answer)) if is_bad(ended) => Ended {
+                answer,
+                count: 0,
+                index,
+            },
+            _ => ended,
+        }
+    }
+}
+
+/// Tells no index where the tape is ragged.
+struct LosesIndex;
+
+impl Side for LosesIndex {
+    fn run(&self, m: &mut raw::Machine, memory: &mut [u64], tape: &[u8]) -> Ended {
+        let mut ended = Archive.run(m, memory, tape);
+        if ended.answer == 6 {
+            ended.index = 0;
+        }
+        ended
+    }
+}
+
+#[test]
+fn half_runs_are_shrunk_to_few_records() {
+    // An event that is done, and a bad record.
+    let (case, _) = shrunk(&RunsHalf);
+    assert_eq!(case.records.len(), 2, "{case}");
+    // An event that is refused, and a bad record.
+    let (case, text) = shrunk(&ReadsLate);
+    assert_eq!(case.records.len(), 2, "{case}");
+    assert!(text.contains("run: model Ended { answer: "), "{text}");
+    // Two bad records.
+    let (case, _) = shrunk(&RunsFromTheEnd);
+    assert_eq!(case.records.len(), 2, "{case}");
+    // A record, and a piece of one.
+    let (case, _) = shrunk(&LosesIndex);
+    assert_eq!(case.records.len(), 1, "{case}");
+    assert!(case.tail.is_some_and(|tail| !tail.is_empty()));
 }
 
 /// Lets an event of a broken machine through.
@@ -466,6 +552,10 @@ fn what_was_not_met_is_told() {
         "std, S, failed: and 3",
         "tsr., S, doomed, failed: itself",
         "run, none done, 6",
+        "run: 7 behind records that would be done",
+        "run: 9 behind a refusal by 3",
+        "run: 8 behind a refusal by 13",
+        "run: 6, some whole records",
         "write, 10",
         "write two, 3",
         "read two, std",
@@ -490,6 +580,7 @@ fn what_cannot_be_met_is_told() {
     counts.failed(tend, Before::T, Done { answer, failed });
     let (answer, failed) = (4, 0b0001);
     counts.failed(tend, Before::T, Done { answer, failed });
+    counts.call(Call::RunSome, 7);
     counts.call(Call::Write, 6);
     assert_eq!(
         counts.wrong(1),
@@ -498,6 +589,7 @@ fn what_cannot_be_met_is_told() {
             "met 1 times: tend., -, failed: 1 other, though a refused event fails no one",
             "met 1 times: tend., T, failed: itself, though 20, 21 and treclaim. of a live \
              transaction tell its own thread, nothing else",
+            "met 1 times: run, some done, 7, though it never gives that",
             "met 1 times: write, 6, though it never gives that"
         ]
     );

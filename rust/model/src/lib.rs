@@ -27,7 +27,7 @@ pub mod tape;
 pub use edition::Edition;
 pub use event::Event;
 pub use machine::{valid, Entry, LineSet, Machine, Registers, State, Thread};
-pub use run::{program, run};
+pub use run::{program, run, run_with_answers, Ended};
 pub use step::{step, step_trusted, step_with_failed, Done};
 pub use tape::{read, write};
 

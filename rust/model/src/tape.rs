@@ -78,8 +78,15 @@ pub fn read(record: &[u8]) -> Result<(u8, Event), u8> {
 
 /// Reads a record of the right length.
 #[inline]
-pub(crate) fn decode(record: &[u8; RECORD]) -> Result<(u8, Event), u8> {
-    let &[mark, kind, thread, x, ra, rb, flags, _, i0, i1, i2, i3, s0, s1, _, _] = record;
+fn decode(record: &[u8; RECORD]) -> Result<(u8, Event), u8> {
+    judge(record)?;
+    judged(record).ok_or(answer::KIND)
+}
+
+/// Whether a record of the right length is one; else 7, 8 or 9.
+#[inline(always)]
+pub(crate) fn judge(record: &[u8; RECORD]) -> Result<(), u8> {
+    let &[mark, kind, ..] = record;
     if mark != MARK {
         return Err(answer::MARK);
     }
@@ -89,6 +96,14 @@ pub(crate) fn decode(record: &[u8; RECORD]) -> Result<(u8, Event), u8> {
     if u128::from_be_bytes(*record) & MUST_BE_ZERO[usize::from(kind)] != 0 {
         return Err(answer::FIELD);
     }
+    Ok(())
+}
+
+/// The thread and the event of a record that has been judged; none only if no
+/// event has its kind.
+#[inline(always)]
+pub(crate) fn judged(record: &[u8; RECORD]) -> Option<(u8, Event)> {
+    let &[_, kind, thread, x, ra, rb, flags, _, i0, i1, i2, i3, s0, s1, _, _] = record;
     let fields = Fields {
         kind,
         thread,
@@ -99,10 +114,7 @@ pub(crate) fn decode(record: &[u8; RECORD]) -> Result<(u8, Event), u8> {
         index: u32::from_be_bytes([i0, i1, i2, i3]),
         si: u16::from_be_bytes([s0, s1]),
     };
-    match fields.event() {
-        Some(event) => Ok((thread, event)),
-        None => Err(answer::KIND),
-    }
+    Some((thread, fields.event()?))
 }
 
 /// Writes one record into the first 16 bytes of the buffer and gives 0; a

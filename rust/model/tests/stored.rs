@@ -240,7 +240,7 @@ fn tapes() -> Vec<(PathBuf, Vec<u8>, String)> {
 #[test]
 fn texts_beside_the_tapes_agree() {
     let tapes = tapes();
-    assert_eq!(tapes.len(), 11);
+    assert_eq!(tapes.len(), 12);
     for (path, tape, text) in tapes {
         let given = program(&tape);
         let given: Vec<&str> = given.lines().collect();
@@ -297,7 +297,8 @@ fn the_elision_of_edition_two_stores_298() {
     let mut three = vec![0; two.len()];
     assert_eq!(Edition::Two.convert(&two, &mut three), (0, 9));
     let (mut m, mut mem) = (Machine::fresh(), vec![0; 4096]);
-    assert_eq!(model::run(&mut m, &mut mem, &three), (0, 9));
+    let ended = model::run(&mut m, &mut mem, &three);
+    assert_eq!((ended.answer, ended.count, ended.index), (0, 9, 9));
     assert_eq!((mem[272], mem.iter().sum()), (298, 298));
 }
 
@@ -318,5 +319,5 @@ fn tapes_are_refused_as_the_wrong_edition() {
         assert_eq!(edition.other().convert(&tape, &mut buf), (7, 0), "{path:?}");
         mixed_up += 1;
     }
-    assert_eq!(mixed_up, 8);
+    assert_eq!(mixed_up, 9);
 }

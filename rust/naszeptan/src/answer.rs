@@ -6,7 +6,8 @@ use std::fmt;
 /// What a call gave back: one case for each number of docs/RULES.md, N1.
 ///
 /// The cases 0, 20 and 21 say that the event was done, all others that it was
-/// refused and has changed nothing. In a run, the records before it stay done.
+/// refused and has changed nothing. In a run, 6 to 9 refuse the whole tape; an
+/// event that is refused stops the run, and the records before it stay done.
 ///
 /// ```
 /// use naszeptan::Answer;

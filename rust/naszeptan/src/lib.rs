@@ -64,6 +64,8 @@
 //!   [`LineSet`], [`Entry`]: the state. Every field may be read and set.
 //! - [`Machine::step`] and [`Machine::run`], also as the functions [`step`]
 //!   and [`run`].
+//! - [`Ended`], [`Ended::bad_record`]: how a run ended, and the first record
+//!   that is none. A tape that has one is not run.
 //! - [`Machine::step_with_failed`], [`Done`], [`ThreadSet`]: which threads failed
 //!   in an event, others than its own too.
 //! - [`Edition`], [`Tape::convert`], [`Event::read_in`], [`Event::write_in`]:
@@ -81,6 +83,7 @@ pub mod raw;
 
 mod answer;
 mod edition;
+mod ended;
 mod event;
 mod kind;
 mod machine;
@@ -94,9 +97,10 @@ mod transaction;
 
 pub use answer::{Answer, NoAnswer};
 pub use edition::{Edition, NotConverted};
+pub use ended::Ended;
 pub use event::Event;
 pub use kind::{Kind, Operand, KINDS};
-pub use machine::{Control, Done, Ended, Machine, State, Thread};
+pub use machine::{Control, Done, Machine, State, Thread};
 #[doc(inline)]
 pub use raw::{version, Entry, Lines as LineSet, Registers, Transaction};
 pub use raw::{FIRST_BYTE, GPRS, LEVELS, LINE, MEMORY, PLACES, RECORD_SIZE, THREADS, VERSION};

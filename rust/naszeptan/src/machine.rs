@@ -3,7 +3,7 @@
 use std::fmt;
 
 use crate::raw::{self, Registers, Transaction, THREADS};
-use crate::{Answer, Event, Texasr, ThreadSet};
+use crate::{Answer, Ended, Event, Texasr, ThreadSet};
 
 /// A thread's state.
 #[derive(Clone, Copy, Debug, Default, PartialEq, Eq, Hash)]
@@ -100,15 +100,6 @@ pub struct Done {
     pub failed: ThreadSet,
 }
 
-/// How a run ended.
-#[derive(Clone, Copy, Debug, PartialEq, Eq, Hash)]
-pub struct Ended {
-    /// The answer that ended the run: [`Answer::Done`] at the tape's end.
-    pub answer: Answer,
-    /// How many records were done.
-    pub count: usize,
-}
-
 impl Machine {
     /// The fresh machine: four threads, Non-transactional, PR = 1, TM = 1, all
     /// else zero.
@@ -187,7 +178,9 @@ impl Machine {
         }
     }
 
-    /// Runs a tape until a record is refused or the tape ends. The machine is
+    /// Runs a tape, if every record of it is one. Else nothing is run, and
+    /// [`Ended::bad_record`] tells the first that is none. The events are done
+    /// one after another until one is refused or the tape ends; the machine is
     /// then the one after exactly the records that were done.
     ///
     /// ```
@@ -201,7 +194,17 @@ impl Machine {
     /// let ended = machine.run(&mut memory, &tape);
     /// assert_eq!(ended.answer, Answer::Operand); // there is no doubleword 99
     /// assert_eq!(ended.count, 1);
+    /// assert_eq!(ended.to_string(), "record 1: 4, an operand is out of range");
     /// assert_eq!(machine.threads[0].live.gpr[3], 7);
+    ///
+    /// // With a byte that is wrong in the second record, nothing is run.
+    /// let mut bytes = tape.into_bytes();
+    /// bytes[16] = 0;
+    /// let mut machine = Machine::fresh();
+    /// let ended = machine.run(&mut memory, &bytes);
+    /// assert_eq!(ended.bad_record(), Some((1, Answer::BadFirstByte)));
+    /// assert_eq!(ended.count, 0);
+    /// assert_eq!(machine, Machine::fresh());
     /// ```
     #[must_use = "a record may have been refused"]
     pub fn run(&mut self, memory: &mut [u64], tape: impl AsRef<[u8]>) -> Ended {
@@ -212,6 +215,7 @@ impl Machine {
         Ended {
             answer: Answer::promised(ended.answer),
             count: ended.count,
+            index: ended.index,
         }
     }
 

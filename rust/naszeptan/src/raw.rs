@@ -225,7 +225,11 @@ pub struct Ended {
     pub answer: u8,
     /// How many records were done.
     pub count: usize,
-    /// The machine after exactly those.
+    /// The record that the answer is about: the first bad one for 7, 8 and 9,
+    /// the number of whole records for 6, and 0 for 1 and 2. Nothing was run
+    /// then. Else it is `count`.
+    pub index: usize,
+    /// The machine after exactly the records done.
     pub machine: Machine,
 }
 
@@ -275,8 +279,10 @@ pub fn step(machine: Machine, memory: &mut [u64], event: Event) -> Done {
     sys::step(machine, memory, event)
 }
 
-/// A tape, record by record, until one is refused or the tape ends. Refused
-/// as a whole by 1, 2 and 6, also where the tape is empty.
+/// A tape. Refused as a whole, and nothing of it run, by 1, 2 and 6, also where
+/// it is empty, and then by 7, 8 or 9 of the first record that one of these
+/// applies to. Else its events are done, one after another, until one is
+/// refused or the tape ends.
 pub fn run(machine: Machine, memory: &mut [u64], tape: &[u8]) -> Ended {
     sys::run(machine, memory, tape)
 }

@@ -90,7 +90,7 @@ impl Tape {
     }
 
     /// Whether the length is not a multiple of 16 bytes. Such a tape is
-    /// refused as a whole by a run.
+    /// refused as a whole by a run, as is one with any record that is none.
     pub fn is_ragged(&self) -> bool {
         self.bytes.len() % RECORD_SIZE != 0
     }

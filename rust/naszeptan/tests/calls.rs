@@ -170,49 +170,114 @@ fn raw_machines_that_are_none() {
         assert_eq!(Machine::try_from(&machine), Err(Answer::NoMachine));
         let done = raw::step(machine, &mut memory, UNUSED_SET);
         assert_eq!((done.answer, done.machine), (2, machine));
-        let ended = raw::run(machine, &mut memory, &[0; 3]);
-        assert_eq!((ended.answer, ended.count), (2, 0));
-        assert_eq!(ended.machine, machine);
+        for tape in [&[0u8; 3] as &[u8], &[0; 16], &[0; 40]] {
+            let ended = raw::run(machine, &mut memory, tape);
+            assert_eq!((ended.answer, ended.count, ended.index), (2, 0, 0));
+            assert_eq!(ended.machine, machine);
+        }
         assert_eq!(memory, [5; 16]);
     }
 }
 
-#[test]
-fn refusals_of_a_run() {
-    let good = Event::Addi {
-        rt: 3,
-        ra: 3,
-        si: 1,
+/// Runs a tape that is to be refused as a whole.
+fn not_run(machine: &Machine, len: usize, bytes: &[u8], answer: Answer, index: usize) -> Ended {
+    let (mut after, mut memory) = (machine.clone(), vec![5; len]);
+    let ended = naszeptan::run(&mut after, &mut memory, bytes);
+    let count = 0;
+    let expected = Ended {
+        answer,
+        count,
+        index,
     };
-    let changes = [
-        (0, 0xE2, Answer::BadFirstByte),
-        (1, 18, Answer::NoKind),
-        (15, 1, Answer::Field),
-    ];
-    for (place, byte, answer) in changes {
-        let tape: Tape = [(0, good), (0, good), (0, good)].into_iter().collect();
-        let mut bytes = tape.into_bytes();
+    assert_eq!(ended, expected);
+    assert_eq!(after, *machine);
+    assert!(memory.iter().all(|&word| word == 5));
+    ended
+}
+
+/// Bytes of a record that make it none, each with its place and the answer.
+const SPOILT: [(usize, u8, Answer); 3] = [
+    (0, 0xE2, Answer::BadFirstByte),
+    (1, 0, Answer::NoKind),
+    (15, 1, Answer::Field),
+];
+
+#[test]
+fn bad_records_of_a_run() {
+    let (rt, ra) = (3, 3);
+    let good = Event::Addi { rt, ra, si: 1 };
+    for (place, byte, answer) in SPOILT {
+        let mut bytes = Tape::from_iter([(0, good); 4]).into_bytes();
         bytes[32 + place] = byte;
-        let (mut machine, mut memory) = (Machine::fresh(), [0; 16]);
-        let ended = naszeptan::run(&mut machine, &mut memory, &bytes);
-        assert_eq!(ended, Ended { answer, count: 2 });
-        assert_eq!(machine.threads[0].live.gpr[3], 2);
-        assert_eq!(Tape::from_bytes(bytes).records().last(), Some(Err(answer)));
+        let ended = not_run(&Machine::fresh(), 16, &bytes, answer, 2);
+        assert_eq!(ended.bad_record(), Some((2, answer)));
+        let text = format!("record 2: {}, {answer}", answer.number());
+        assert_eq!(ended.to_string(), text);
+        let tape = Tape::from_bytes(bytes.clone());
+        assert_eq!(tape.records().nth(2), Some(Err(answer)));
+        // The first of two counts.
+        bytes[48] = 0;
+        not_run(&Machine::fresh(), 16, &bytes, answer, 2);
     }
+}
+
+/// An event that would be refused does not hide a bad record behind it.
+#[test]
+fn bad_records_behind_refused_events() {
+    let mut machine = Machine::fresh();
+    machine.threads[0].control.pr = false;
+    let reclaim = Event::Treclaim { ra: 0 };
+    for (thread, refused) in [(0, Answer::BadThing), (4, Answer::NoThread)] {
+        for (place, byte, answer) in SPOILT {
+            let mut bytes = Tape::from_iter([(thread, reclaim); 2]).into_bytes();
+            let (mut memory, stop) = ([0; 16], (refused, 0, 0));
+            let ended = machine.clone().run(&mut memory, &bytes);
+            assert_eq!((ended.answer, ended.count, ended.index), stop);
+            assert_eq!(ended.bad_record(), None);
+            bytes[16 + place] = byte;
+            not_run(&machine, 16, &bytes, answer, 1);
+        }
+    }
+}
+
+#[test]
+fn a_run_up_to_a_refused_event() {
+    let (mut machine, mut memory) = (Machine::fresh(), [0; 16]);
+    let (rt, ra) = (3, 3);
+    let good = Event::Addi { rt, ra, si: 1 };
+    let tape = Tape::from_iter([(0, good), (0, good), (9, good), (0, good)]);
+    let ended = machine.run(&mut memory, &tape);
+    assert_eq!((ended.count, ended.index), (2, 2));
+    assert_eq!(ended.to_string(), "record 2: 3, no such thread");
+    assert_eq!(machine.threads[0].live.gpr[3], 2);
+    let ended = machine.run(&mut memory, &tape.as_bytes()[..32]);
+    assert_eq!((ended.answer, ended.index), (Answer::Done, 2));
+    assert_eq!(ended.bad_record(), None);
+    assert_eq!(ended.to_string(), "2 records done");
 }
 
 #[test]
 fn refusals_of_a_whole_run() {
     let mut machine = Machine::fresh();
-    let nothing: [u8; 0] = [];
-    let ended = |answer| Ended { answer, count: 0 };
-    assert_eq!(machine.run(&mut [], nothing), ended(Answer::Size));
-    assert_eq!(machine.run(&mut [0; 16], [0xE3]), ended(Answer::TapeLength));
-    assert_eq!(machine.run(&mut [0; 16], nothing), ended(Answer::Done));
+    // A good record and a bad one, and what is cut off.
+    let mut bytes = Tape::from_iter([(0, Event::Disallowed); 3]).into_bytes();
+    bytes[16] = 0;
+    for (len, whole) in [(1, 0), (15, 0), (17, 1), (31, 1), (47, 2)] {
+        let ended = not_run(&machine, 16, &bytes[..len], Answer::TapeLength, whole);
+        assert_eq!(ended.bad_record(), Some((whole, Answer::TapeLength)));
+        let text = "the tape: 6, the length is not a multiple of 16 bytes";
+        assert_eq!(ended.to_string(), text);
+    }
+    not_run(&machine, 16, &[], Answer::Done, 0);
+    // 1 and 2 come before the tape is read.
     machine.threads[0].control.tfhar = 1;
-    let before = machine.clone();
-    assert_eq!(machine.run(&mut [0; 16], nothing), ended(Answer::NoMachine));
-    assert_eq!(machine, before);
+    for tape in [&bytes[..0], &bytes[..17], &bytes] {
+        not_run(&Machine::fresh(), 17, tape, Answer::Size, 0);
+        not_run(&machine, 17, tape, Answer::Size, 0);
+        let ended = not_run(&machine, 16, tape, Answer::NoMachine, 0);
+        assert_eq!(ended.bad_record(), None);
+        assert_eq!(ended.to_string(), "the machine: 2, not a valid machine");
+    }
 }
 
 #[test]

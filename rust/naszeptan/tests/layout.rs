@@ -74,8 +74,8 @@ fn answers() {
         (6704, 8, vec![0, 1, 8])
     );
     assert_eq!(
-        layout!(Ended, answer, count, machine),
-        (6712, 8, vec![0, 8, 16])
+        layout!(Ended, answer, count, index, machine),
+        (6720, 8, vec![0, 8, 16, 24])
     );
     assert_eq!(layout!(Record, answer, event), (20, 4, vec![0, 4]));
     assert_eq!(layout!(Converted, answer, index), (16, 8, vec![0, 8]));

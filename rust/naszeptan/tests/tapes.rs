@@ -40,23 +40,33 @@ fn lines(block: &str) -> Vec<String> {
     block.lines().map(|line| line.trim().to_string()).collect()
 }
 
-/// Each record's answer by stepping, and how it ended.
+/// Each event's answer by stepping, and how it ended.
 fn stepped(machine: &mut Machine, memory: &mut [u64], tape: &Tape) -> (Vec<Answer>, Ended) {
+    let ended = |answer, count| Ended {
+        answer,
+        count,
+        index: count,
+    };
     let mut answers = Vec::new();
-    let mut count = 0;
-    for record in tape.records() {
-        let answer = match record {
-            Ok((thread, event)) => machine.step(memory, thread, event),
-            Err(refused) => refused,
-        };
+    for (count, record) in tape.records().enumerate() {
+        let (thread, event) = record.unwrap();
+        let answer = machine.step(memory, thread, event);
         answers.push(answer);
         if !answer.is_done() {
-            return (answers, Ended { answer, count });
+            return (answers, ended(answer, count));
         }
-        count += 1;
     }
-    let answer = Answer::Done;
-    (answers, Ended { answer, count })
+    (answers, ended(Answer::Done, tape.len()))
+}
+
+/// The first record that is none.
+fn bad_record(tape: &Tape) -> Option<(usize, Answer)> {
+    let length = tape.is_ragged().then_some(Answer::TapeLength);
+    let mut records = tape.records().enumerate();
+    match length {
+        Some(answer) => Some((tape.len() - 1, answer)),
+        None => records.find_map(|(index, record)| Some((index, record.err()?))),
+    }
 }
 
 /// What the program would write. A run must end as the steps do.
@@ -66,12 +76,11 @@ fn written(tape: &Tape) -> Vec<String> {
     }
     let (mut machine, mut memory) = (Machine::fresh(), vec![0; MEMORY]);
     let ended = machine.run(&mut memory, tape);
-    if tape.is_ragged() {
-        assert_eq!(machine, Machine::fresh());
-        return vec![
-            format!("- {}", ended.answer.number()),
-            format!("end {}", ended.count),
-        ];
+    assert_eq!(ended.bad_record(), bad_record(tape));
+    if let Some((index, answer)) = ended.bad_record() {
+        assert_eq!((machine, ended.count), (Machine::fresh(), 0));
+        assert_eq!(memory, [0; MEMORY]);
+        return vec![format!("bad {index} {}", answer.number())];
     }
     let (mut other, mut other_memory) = (Machine::fresh(), vec![0; MEMORY]);
     let (answers, also) = stepped(&mut other, &mut other_memory, tape);
@@ -185,6 +194,11 @@ fn every_kind() {
 #[test]
 fn first_byte() {
     hold("first_byte");
+}
+
+#[test]
+fn hidden() {
+    hold("hidden");
 }
 
 #[test]

@@ -193,7 +193,8 @@ mod tests {
     use model::run;
 
     fn ended(tape: &[u8]) -> (u8, usize) {
-        run(&mut Machine::fresh(), &mut vec![0; MAX_MEMORY], tape)
+        let ended = run(&mut Machine::fresh(), &mut vec![0; MAX_MEMORY], tape);
+        (ended.answer, ended.count)
     }
 
     #[test]

@@ -25,18 +25,18 @@ fn millis(time: Duration) -> f64 {
 
 fn time(name: &str, tape: &[u8]) -> std::io::Result<()> {
     let mut times = Vec::new();
-    let mut outcome = (0, 0);
+    let mut outcome = None;
     let start = on_processor();
     for _ in 0..ROUNDS {
         let mut m = Machine::fresh();
         let mut mem = [0u64; 4096];
         let start = Instant::now();
-        outcome = black_box(run(&mut m, &mut mem, black_box(tape)));
+        outcome = Some(black_box(run(&mut m, &mut mem, black_box(tape))));
         times.push(start.elapsed());
     }
     let end = on_processor();
     times.sort();
-    let (answer, done) = outcome;
+    let (answer, done) = outcome.map_or((0, 0), |ended| (ended.answer, ended.count));
     let mut out = std::io::stdout();
     write!(
         out,
@@ -59,7 +59,7 @@ fn main() -> std::io::Result<()> {
     let (mut m, mut mem) = (Machine::fresh(), vec![0u64; 4096]);
     while tape.len() < RECORDS * 16 {
         let piece = gen::tape(&mut rng, &m, &mem, 1000);
-        let (_, done) = run(&mut m, &mut mem, &piece);
+        let done = run(&mut m, &mut mem, &piece).count;
         tape.extend_from_slice(&piece[..done * 16]);
     }
     tape.truncate(RECORDS * 16);

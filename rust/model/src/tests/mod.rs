@@ -5,15 +5,18 @@ mod events;
 mod failed;
 mod literal;
 mod machines;
+mod program;
 mod properties;
 mod refusals;
+mod runs;
 mod slips;
 mod tapes;
 mod values;
 
 use crate::gen::Rng;
 use crate::machine::{texasr, MAX_LEVEL};
-use crate::{answer, step, valid, Event, Machine, State, Thread};
+use crate::tape::encode;
+use crate::{answer, step, valid, Ended, Event, Machine, State, Thread};
 
 /// Prints the seed of a property test that fails.
 struct Seed(u64);
@@ -32,6 +35,41 @@ fn seeds(n: u64, property: impl Fn(&mut Rng)) {
         let printed = Seed(seed);
         property(&mut Rng::new(seed));
         drop(printed);
+    }
+}
+
+/// The records of these events, one after another.
+fn tape(events: &[(u8, Event)]) -> Vec<u8> {
+    events
+        .iter()
+        .flat_map(|&(thread, e)| encode(thread, e))
+        .collect()
+}
+
+/// Records that are none, each with the number that says why.
+fn bad_records() -> [([u8; 16], u8); 3] {
+    let (mut mark, mut kind, mut field) = ([encode(0, TBEGIN); 3]).into();
+    mark[0] = 0;
+    kind[1] = 0;
+    field[15] = 1;
+    [(mark, 7), (kind, 8), (field, 9)]
+}
+
+/// A run that ended so after this many records.
+fn ended(answer: u8, count: usize) -> Ended {
+    Ended {
+        answer,
+        count,
+        index: count,
+    }
+}
+
+/// A tape of which nothing was run, for what is at this index.
+fn bad(answer: u8, index: usize) -> Ended {
+    Ended {
+        answer,
+        count: 0,
+        index,
     }
 }
 
@@ -76,6 +114,11 @@ impl Bench {
         let mut b = Bench::suspended();
         b.gives(TABORT, 21);
         b
+    }
+
+    /// Runs a tape.
+    fn run(&mut self, tape: &[u8]) -> Ended {
+        crate::run(&mut self.m, &mut self.mem, tape)
     }
 
     fn thread(&self, n: usize) -> &Thread {

@@ -1,16 +1,9 @@
-//! Rules T1 to T7, R1 to R4 and P1 to P6: records, the run and the program.
+//! Rules T1 to T7: records, and the tapes that the generator makes.
 
 use super::*;
 use crate::gen::{self, Rng};
 use crate::tape::encode;
-use crate::{program, read, run, step_trusted, write};
-
-fn tape(events: &[(u8, Event)]) -> Vec<u8> {
-    events
-        .iter()
-        .flat_map(|&(thread, e)| encode(thread, e))
-        .collect()
-}
+use crate::{read, run, step_trusted, write};
 
 #[test]
 fn bytes_of_a_std() {
@@ -140,147 +133,6 @@ fn any_bytes_are_read() {
 }
 
 #[test]
-fn a_run_stops_before_a_bad_record() {
-    let good = tape(&[(0, TBEGIN), (0, std(0, 1)), (0, TABORT), (1, TBEGIN)]);
-    // 20 goes on.
-    let mut b = Bench::fresh();
-    assert_eq!(run(&mut b.m, &mut b.mem, &good), (0, 4));
-    // 21 goes on.
-    let suspended = tape(&[(0, TBEGIN), (0, TSUSPEND), (0, TABORT), (0, TRESUME)]);
-    let mut b = Bench::fresh();
-    assert_eq!(run(&mut b.m, &mut b.mem, &suspended), (0, 4));
-    // Anything else stops, with the machine after exactly the records done.
-    let mut bad = [[0; 16]; 5];
-    bad[1] = encode(0, TBEGIN);
-    bad[1][1] = 18;
-    bad[2] = encode(0, TBEGIN);
-    bad[2][15] = 1;
-    bad[3] = encode(4, TBEGIN);
-    bad[4] = encode(1, Event::Trechkpt);
-    for (record, number) in bad.into_iter().zip([7, 8, 9, 3, 12]) {
-        for before in 0..4 {
-            let mut cut = good.clone();
-            cut[before * 16..][..16].copy_from_slice(&record);
-            let mut b = Bench::fresh();
-            assert_eq!(run(&mut b.m, &mut b.mem, &cut), (number, before));
-            let mut after = Bench::fresh();
-            run(&mut after.m, &mut after.mem, &good[..before * 16]);
-            assert_eq!(b, after);
-        }
-    }
-}
-
-#[test]
-fn program_texts() {
-    assert_eq!(
-        program(&tape(&[(0, TBEGIN), (0, TEND)])),
-        "0 0\n1 0\nend 2\n"
-    );
-    assert_eq!(program(&[]), "end 0\n");
-    assert_eq!(program(&[0xE3]), "- 6\nend 0\n");
-    assert_eq!(program(&[0; 17]), "- 6\nend 0\n");
-    // A stopping record has its line and is not counted.
-    let tail = tape(&[(0, TBEGIN), (0, TABORT), (9, TEND), (0, TEND)]);
-    assert_eq!(program(&tail), "0 0\n1 20\n2 3\nend 2\n");
-    assert_eq!(program(&[0; 16]), "0 7\nend 0\n");
-    let s = tape(&[(3, TBEGIN), (3, TSUSPEND), (3, TABORT), (3, TEND)]);
-    assert_eq!(program(&s), "0 0\n1 0\n2 21\n3 13\nend 3\n");
-}
-
-#[test]
-fn program_lengths() {
-    let long = tape(&vec![(0, TEND); 4097]);
-    let text = program(&long[..65_536]);
-    assert_eq!(text.lines().count(), 4097);
-    assert!(text.ends_with("\n4095 0\nend 4096\n"));
-    assert_eq!(program(&long[..65_535]), "- 6\nend 0\n");
-    assert_eq!(program(&long[..65_537]), "long\n");
-    assert_eq!(program(&long), "long\n");
-}
-
-/// The highest level is reached by events: the longest tape of the program
-/// climbs to it and overflows at its last record (rules E1, P2 and K7).
-#[test]
-fn a_tape_climbs_all_levels() {
-    let levels = MAX_LEVEL as usize;
-    let climb = tape(&vec![(0, TBEGIN); levels + 1]);
-    assert_eq!(climb.len(), 65_536);
-    let done: String = (0..levels).map(|n| format!("{n} 0\n")).collect();
-    assert_eq!(program(&climb), done + "4095 20\nend 4096\n");
-    let mut b = Bench::fresh();
-    assert_eq!(run(&mut b.m, &mut b.mem, &climb[..65_520]), (0, levels));
-    assert_eq!((b.thread(0).state, b.thread(0).texasr), (State::T, 4095));
-    b.gives(TBEGIN, 20).is(State::N);
-    let t = b.thread(0);
-    assert_eq!(t.texasr, 0x0040_0000_1C00_0FFF);
-    assert_eq!((t.nia, t.tfiar), (4, 4 * 4095 + 1));
-}
-
-#[test]
-fn a_run_is_its_records_one_by_one() {
-    seeds(300, |rng| {
-        let (m, mem) = gen::valid_machine(rng);
-        let n = rng.below(120);
-        let mut tape = gen::tape(rng, &m, &mem, n);
-        if rng.one_in(8) {
-            tape.extend(gen::record(rng));
-        }
-        if rng.one_in(40) {
-            tape.push(rng.byte());
-        }
-        let mut ran = Bench {
-            m: m.clone(),
-            mem: mem.clone(),
-        };
-        let (number, done) = run(&mut ran.m, &mut ran.mem, &tape);
-        let mut b = Bench { m, mem };
-        if tape.len() % 16 != 0 {
-            assert_eq!((number, done), (6, 0));
-            assert_eq!(ran, b);
-            return;
-        }
-        let mut expected = (0, tape.len() / 16);
-        for (i, record) in tape.chunks(16).enumerate() {
-            let number = match read(record) {
-                Ok((thread, e)) => step(&mut b.m, &mut b.mem, thread, e),
-                Err(number) => number,
-            };
-            if !matches!(number, 0 | 20 | 21) {
-                expected = (number, i);
-                break;
-            }
-        }
-        assert_eq!((number, done), expected);
-        assert_eq!(ran, b);
-    });
-}
-
-#[test]
-fn a_program_is_a_run_on_a_fresh_machine() {
-    seeds(60, |rng| {
-        let fresh = Bench::fresh();
-        let n = rng.below(400);
-        let tape = gen::tape(rng, &fresh.m, &fresh.mem, n);
-        let mut b = Bench::fresh();
-        let mut text = String::new();
-        let mut done = 0;
-        for (i, record) in tape.chunks(16).enumerate() {
-            let number = match read(record) {
-                Ok((thread, e)) => step(&mut b.m, &mut b.mem, thread, e),
-                Err(number) => number,
-            };
-            text += &format!("{i} {number}\n");
-            if !matches!(number, 0 | 20 | 21) {
-                break;
-            }
-            done += 1;
-        }
-        text += &format!("end {done}\n");
-        assert_eq!(program(&tape), text);
-    });
-}
-
-#[test]
 fn long_tapes_go_far() {
     // The generator's tapes are to reach deep, or the tests above test little.
     let fresh = Bench::fresh();
@@ -289,7 +141,7 @@ fn long_tapes_go_far() {
     for _ in 0..20 {
         let tape = gen::tape(&mut rng, &fresh.m, &fresh.mem, 400);
         let mut b = fresh.clone();
-        done += run(&mut b.m, &mut b.mem, &tape).1;
+        done += b.run(&tape).count;
     }
     assert!(done > 20 * 100, "{done}");
 }
@@ -298,7 +150,7 @@ fn long_tapes_go_far() {
 fn short_transactions_commit() {
     let tape = gen::short_transactions(100_000);
     let mut b = Bench::fresh();
-    assert_eq!(run(&mut b.m, &mut b.mem, &tape), (0, 100_000));
+    assert_eq!(b.run(&tape), ended(0, 100_000));
     assert_eq!(b.mem.iter().sum::<u64>(), 20_000);
     assert!(b.m.threads.iter().all(|t| t.state == State::N));
 }

@@ -238,7 +238,7 @@ fn the_program_reads_a_tape_once_it_is_converted() {
         (1, TEND),
     ];
     let tape: Vec<u8> = tape.iter().flat_map(|&(n, e)| written(n, e)).collect();
-    assert_eq!(program(&tape), "0 7\nend 0\n");
+    assert_eq!(program(&tape), "bad 0 7\n");
     let three = convert(Edition::Two, &tape).expect("good records");
     assert_eq!(program(&three), "0 0\n1 0\n2 0\n3 0\n4 0\nend 5\n");
 }

@@ -42,8 +42,9 @@ fn a_broken_machine_is_left_alone() {
         let shape = b.m.shape_fits(b.mem.len());
         assert_eq!(number, if shape { 2 } else { 1 });
         assert_eq!(b, before);
-        assert_eq!(crate::run(&mut b.m, &mut b.mem, &[]), (number, 0));
-        assert_eq!(crate::run(&mut b.m, &mut b.mem, &[0; 7]), (number, 0));
+        for tape in [&[] as &[u8], &[0; 7], &[0; 16]] {
+            assert_eq!(b.run(tape), bad(number, 0));
+        }
         assert_eq!(b, before);
     });
 }

@@ -13,8 +13,9 @@ fn number_1_shape() {
         let mut b = Bench::fresh();
         b.mem.resize(len, 0);
         let before = b.clone();
-        assert_eq!(run(&mut b.m, &mut b.mem, &[]), (1, 0));
-        assert_eq!(run(&mut b.m, &mut b.mem, &[9]), (1, 0));
+        for tape in [&[] as &[u8], &[9], &[9; 16], &[9; 40]] {
+            assert_eq!(b.run(tape), bad(1, 0), "1 comes before 6 and 7");
+        }
         assert_eq!(b, before);
     }
     for count in [0, 5, 256, usize::MAX] {
@@ -28,7 +29,7 @@ fn number_1_shape() {
         }
         let mut b = Bench::fresh();
         b.m.count = count;
-        assert_eq!(run(&mut b.m, &mut b.mem, &[]), (1, 0));
+        assert_eq!(b.run(&[]), bad(1, 0));
     }
     for len in [16, 32, 4080, 4096] {
         let mut b = Bench::fresh();
@@ -48,8 +49,9 @@ fn number_2_not_valid() {
         assert_eq!(step(&mut b.m, &mut b.mem, 9, e), 2);
         assert_eq!(step(&mut b.m, &mut b.mem, 0, ld(99, 9999)), 2);
         // The tests of the whole come first, also where there is no record.
-        assert_eq!(run(&mut b.m, &mut b.mem, &[]), (2, 0));
-        assert_eq!(run(&mut b.m, &mut b.mem, &[1]), (2, 0));
+        for tape in [&[] as &[u8], &[9], &[9; 16], &[9; 40]] {
+            assert_eq!(b.run(tape), bad(2, 0), "2 comes before 6 and 7");
+        }
         assert_eq!(b, before);
     }
 }

@@ -7,7 +7,7 @@ mod records;
 
 use super::*;
 use crate::machine::texasr;
-use crate::{read, run, write};
+use crate::{read, write};
 
 /// One event of each kind with operands in range.
 const EACH: [Event; 17] = [

@@ -10,11 +10,11 @@ fn number_6_length() {
         let record: Vec<u8> = good.iter().copied().cycle().take(len).collect();
         assert_eq!(read(&record), Err(6));
         let mut b = Bench::fresh();
-        let (number, done) = run(&mut b.m, &mut b.mem, &record);
+        let given = b.run(&record);
         if len % 16 == 0 {
-            assert_eq!((number, done), (0, len / 16));
+            assert_eq!(given, ended(0, len / 16));
         } else {
-            assert_eq!((number, done), (6, 0));
+            assert_eq!(given, bad(6, len / 16));
             assert_eq!(b, Bench::fresh(), "no record done");
         }
     }
