@@ -1,5 +1,5 @@
-// What the text tells of the run's end. The numbers of its last two lines are the answer of the last record read and the count (rules P4 and
-// P5); for a ragged tape they are 6 and 0 (rule P3). So the tape is not run a second time.
+// What the text tells of the run's end. The numbers of its last two lines are the answer of the last event and the count (rules P4 and P5). So
+// the tape is not run a second time. A tape that was not run is not told of from here.
 
 // The number that is being read, that of the last line ended, and that of the line before it.
 pub struct Told {

@@ -137,7 +137,7 @@ fn malformed(n: u8, first: u8, kind: u8) {
     }
 }
 
-// The record that stopped the run. Its thread is named where there is none such.
+// The record that stopped the run, or the bad one. Its thread is named where there is none such.
 fn record(bytes: &[u8], n: u32) {
     if bytes.len() < 2 {
         return;
@@ -155,26 +155,23 @@ fn record(bytes: &[u8], n: u32) {
     }
 }
 
-// A line for the record that stopped the run. It stands on the tape: the two tests are there since no contract says so.
-fn stopped(input: &[u8], t: Told) {
-    let from = t.count as usize * RECORD_SIZE;
-    if input.len() < RECORD_SIZE {
+// A line for the record that stopped the run, and for the bad one. It stands on the tape: the test is there since no contract says so.
+fn stopped(input: &[u8], k: usize, n: u32) {
+    if k >= input.len() / RECORD_SIZE {
         return;
     }
-    if from > input.len() - RECORD_SIZE {
-        return;
-    }
+    let from = k * RECORD_SIZE;
     let to = from + RECORD_SIZE;
-    with(b"naszeptan: record ", t.count as u64);
-    with(b": ", t.answer as u64);
+    with(b"naszeptan: record ", k as u64);
+    with(b": ", n as u64);
     say(b", ");
-    answer(t.answer);
+    answer(n);
     say(b" (");
-    record(&input[from..to], t.answer);
+    record(&input[from..to], n);
     say(b")\n");
 }
 
-// A line for a tape that was not run.
+// A line for a tape that is refused by its length.
 fn whole(bytes: usize) {
     if bytes > LONGEST {
         with(b"naszeptan: tape: long, more than ", LONGEST as u64);
@@ -185,20 +182,27 @@ fn whole(bytes: usize) {
     }
 }
 
-// Nothing where the tape ended, else one line.
-pub fn tell(input: &[u8], t: Told) {
-    let n = input.len();
-    if n > LONGEST {
-        whole(n);
-        return;
-    }
-    if n % RECORD_SIZE != 0 {
-        whole(n);
-        return;
-    }
-    let answer = t.answer;
-    match answer {
+// Of a tape that was run: nothing where it ended.
+fn ran(input: &[u8], t: Told) {
+    let n = t.answer;
+    match n {
         0 | 20 | 21 => {}
-        _ => stopped(input, t),
+        _ => stopped(input, t.count as usize, n),
+    }
+}
+
+// Nothing where the tape ended, else one line. A tape with a bad record was not run, so the tape tells of it and not the text (rule P3).
+pub fn tell(input: &[u8], t: Told) {
+    let bytes = input.len();
+    if bytes > LONGEST {
+        whole(bytes);
+        return;
+    }
+    let found = tape::whole::bad_record(input);
+    let n = found.answer;
+    match n {
+        answer::DONE => ran(input, t),
+        answer::TAPE_LENGTH => whole(bytes),
+        _ => stopped(input, found.index, n as u32),
     }
 }

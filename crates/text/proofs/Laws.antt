@@ -3,10 +3,10 @@ use mathlib.Core.Path.{_≡_, refl, sym, ap, subst, _∙_}
 use mathlib.Core.Bool.{Bool, true, not, cond}
 use mathlib.Core.Logic.{⊎-elim}
 use mathlib.Core.List.{List, [], _∷_, _++_}
-use Prim.Native.Nat.{ℕ, suc, _+_, _*_, _/_, _%_, _≤_, _<_}
+use Prim.Native.Nat.{ℕ, suc, _+_, _*_, _/_, _≤_, _<_}
 use native.Mathlib.Nat.{add-zero}
 use native.Mathlib.Omega.{arith}
-use borrow.Author.Tests.{lt-ltb, le-ltb, ltb-false, not-false}
+use borrow.Author.Tests.{lt-ltb, le-ltb, eqb-true, ltb-false, not-false}
 use lib.Dec.{eqb, ltb}
 use lib.ListN.{length, getD, set, take, drop, length-append}
 use lib.Seq.{drop-cons, take-append-seam, sets, sets-eq}
@@ -18,11 +18,12 @@ use Rattle.transaction.specs.Transaction as transaction
 use Rattle.machine.specs.Machine.{fresh, fresh-thread, fresh-memory}
 use Rattle.machine.specs.Valid as valid
 use Rattle.tape.specs.Tape.{record-size}
+use Rattle.tape.specs.FirstBad.{bad-record}
 use Rattle.run.specs.Run.{Result, run}
 use Rattle.run.specs.Steps.{Answered}
 use Rattle.run.proofs.Counts.{one-answer-each}
 use Rattle.text.specs.Inner.{Appended}
-use Rattle.text.specs.Text.{longest, decimal, line, end-line, lines, text}
+use Rattle.text.specs.Text.{longest, decimal, line, bad-line, end-line, lines, text}
 
 -- ---- bytes in a buffer
 
@@ -83,6 +84,10 @@ pub line-fits : (k answer : ℕ) → length (line k answer) ≤ 10
 unfolding line
 line-fits k answer = simp length-append (omega (arith, decimal-fits k, decimal-fits answer))
 
+bad-line-fits : (k n : ℕ) → length (bad-line k n) ≤ 14
+unfolding bad-line
+bad-line-fits k n = simp length-append (omega (arith, line-fits k n))
+
 end-line-fits : (n : ℕ) → length (end-line n) ≤ 9
 unfolding end-line
 end-line-fits n = simp length-append (omega (arith, decimal-fits n))
@@ -112,10 +117,11 @@ read-of n r a =
     ⊎-elim (λ w. (ap (λ (b : Bool). cond b (r .ended .count + 1) (r .ended .count)) (le-ltb _ n (omega (arith, w .0))) ∙ w .0 ∙ sym (w .1), omega (arith, w .1)))
     (λ w. (ap (λ (b : Bool). cond b (r .ended .count + 1) (r .ended .count)) (lt-ltb _ n (w .0)) ∙ sym (w .1), omega (arith, w .0, w .1))) a
 
-module _ (input : List ℕ) (p : eqb (length input % record-size) 0 ≡ true) where
+-- of a tape without a bad record
+module _ (input : List ℕ) (z : bad-record input .answer ≡ 0) where
   pub answers-read : (cond (ltb (run fresh fresh-memory input .ended .count) (length input / record-size)) (run fresh fresh-memory input .ended .count + 1) (run fresh fresh-memory input .ended .count) ≡ length (run fresh fresh-memory input .answers))
       × (length (run fresh fresh-memory input .answers) ≤ length input / record-size)
-  answers-read = read-of (length input / record-size) (run fresh fresh-memory input) (one-answer-each fresh fresh-memory input fresh-valid p)
+  answers-read = read-of (length input / record-size) (run fresh fresh-memory input) (one-answer-each fresh fresh-memory input fresh-valid z)
 
 -- no text is longer than the longest input
 pub text-fits : (input : List ℕ) → length (text input) ≤ longest
@@ -124,5 +130,5 @@ text-fits input =
     let small : List ℕ → Type 0 = λ x. length x ≤ longest in
     let r = run fresh fresh-memory input in
     fork small (ltb longest (length input)) (λ e. omega arith)
-    (λ e. fork small (not (eqb (length input % record-size) 0)) (λ f. simp length-append (omega (arith, end-line-fits 0)))
-    (λ f. simp length-append (omega (arith, ltb-false longest (length input) e, lines-fit 0 (r .answers), answers-read input (not-false _ f) .1, end-line-fits (r .ended .count)))))
+    (λ e. fork small (not (eqb (bad-record input .answer) 0)) (λ f. omega (arith, bad-line-fits (bad-record input .index) (bad-record input .answer)))
+    (λ f. simp length-append (omega (arith, ltb-false longest (length input) e, lines-fit 0 (r .answers), answers-read input (eqb-true _ _ (not-false _ f)) .1, end-line-fits (r .ended .count)))))

@@ -5,7 +5,7 @@ use mathlib.Core.List.{List, [], _∷_, _++_}
 use lib.Dec.{eqb, ltb}
 use lib.ListN.{length}
 use Rattle.machine.specs.Machine.{fresh, fresh-memory}
-use Rattle.tape.specs.Tape.{record-size}
+use Rattle.tape.specs.FirstBad.{bad-record}
 use Rattle.run.specs.Run.{run}
 
 -- the longest input that is run; no text is longer (`text-fits`)
@@ -45,19 +45,23 @@ end-line n = end ++ decimal n ++ newline
 abbrev pub long : List ℕ
 long = 108 ∷ 111 ∷ 110 ∷ 103 ∷ 10 ∷ []
 
--- the line "- 6" of a tape whose length is no multiple of 16
-abbrev pub ragged : List ℕ
-ragged = 45 ∷ 32 ∷ 54 ∷ 10 ∷ []
+-- the line "bad INDEX NUMBER" of a tape with a bad record (rule P3)
+abbrev pub bad : List ℕ
+bad = 98 ∷ 97 ∷ 100 ∷ 32 ∷ []
+
+unfoldable pub bad-line : ℕ → ℕ → List ℕ
+bad-line k n = bad ++ line k n
 
 -- a line for each answer, from index k on
 unfoldable pub lines : ℕ → List ℕ → List ℕ
 lines k [] = []
 lines k (a ∷ others) = line k a ++ lines (k + 1) others
 
--- input that is too long is not run; a ragged one has no record done; else each record read has its line, and the end line says how many were done
+-- input that is too long is not run, and neither is a tape with a bad record, whatever stands before it (rules P2 and P3); else each record
+-- done or refused has its line, and the end line says how many were done (rules P4 and P5)
 unfoldable pub text : List ℕ → List ℕ
 text input =
     let r = run fresh fresh-memory input in
     cond (ltb longest (length input)) long
-    (cond (not (eqb (length input % record-size) 0)) (ragged ++ end-line 0)
+    (cond (not (eqb (bad-record input .answer) 0)) (bad-line (bad-record input .index) (bad-record input .answer))
     (lines 0 (r .answers) ++ end-line (r .ended .count)))

@@ -6,8 +6,9 @@ ghost use lib.Dec.{ltb};
 ghost use lib.ListN.{length};
 ghost use lib.Seq.{sets};
 ghost use Rattle.text.specs.Inner.{Appended, most-records};
-ghost use Rattle.text.specs.Text.{longest, digit, decimal, line, end-line, lines, text};
+ghost use Rattle.text.specs.Text.{longest, digit, decimal, line, bad-line, end-line, lines, text};
 use base::MEMORY;
+use base::answer;
 use tape::RECORD_SIZE;
 
 // The longest input that is run; no text is longer. specs/Text.antt has the same number.
@@ -68,6 +69,14 @@ fn line(out: &mut [u8], at: usize, k: usize, answer: u8) -> usize
     append(out, number, b"\n")
 }
 
+// The one line of a tape with a bad record: its index and its number.
+fn bad_line(out: &mut [u8], k: usize, n: u8) -> usize
+    ensures { λ r. ⌜ Appended (now (out .entry)) (now (out .exit)) 0 r (bad-line k n) ⌝ }
+{
+    let word = append(out, 0, b"bad ");
+    line(out, word, k, n)
+}
+
 // The last line: how many records were done.
 fn end_line(out: &mut [u8], at: usize, n: usize) -> usize
     requires { ⌜ at + 9 ≤ longest ⌝ }
@@ -102,7 +111,7 @@ fn read_of(count: usize, n: usize) -> usize
     count
 }
 
-// Input that is too long is not run; a ragged one has no record done; any other is run on a fresh machine with fresh memory.
+// Input that is too long is not run, and no record of a tape with a bad one is (rule P3); any other is run on a fresh machine with fresh memory.
 // Any buffer may be lent: what has no place in it is left out, and what stands behind the text stays.
 pub fn text(input: &[u8], out: &mut [u8]) -> usize
     ensures { λ r. ⌜ r ≡ length (text (now (input .entry))) ⌝ }
@@ -111,9 +120,9 @@ pub fn text(input: &[u8], out: &mut [u8]) -> usize
     if input.len() > LONGEST {
         return append(out, 0, b"long\n");
     }
-    if input.len() % RECORD_SIZE != 0 {
-        let at = append(out, 0, b"- 6\n");
-        return end_line(out, at, 0);
+    let found = tape::whole::bad_record(input);
+    if found.answer != answer::DONE {
+        return bad_line(out, found.index, found.answer);
     }
     let mut memory = [0; MEMORY];
     let mut answers = [0u8; RECORDS];

@@ -1,4 +1,4 @@
--- `text::text` meets its contract: too long, ragged, or run.
+-- `text::text` meets its contract: too long, a bad record, or run.
 use mathlib.Core.Path.{_≡_, sym, ap, _∙_}
 use mathlib.Core.Bool.{cond}
 use mathlib.Core.List.{List}
@@ -11,16 +11,26 @@ use lib.ListN.{length, take, replicate}
 use lib.Seq.{sets}
 use Rattle.machine.specs.Machine.{fresh, fresh-memory}
 use Rattle.machine.specs.declared.Machine.{Machine}
+use Rattle.tape.specs.FirstBad.{bad-record}
+use Rattle.tape.specs.declared.Found.{Found}
 use Rattle.run.specs.Run.{Result, run}
 use Rattle.run.specs.declared.Ended.{Ended}
 use Rattle.text.specs.Inner.{Appended, most-records}
-use Rattle.text.specs.Text.{end-line, lines, text}
+use Rattle.text.specs.Text.{bad-line, end-line, lines, text}
 use Rattle.text.proofs.Laws.{alias, joined, from-start, read-back, lines-fit, answers-read}
 use Rattle.text.proofs.text.Statement.{statement}
 use Rattle.text.proofs.text.Tie as tie
 
+abbrev start : tie.After-bad-record → tie.Start
+start b = b .before .before .before .before
+
+-- the tape that is run
 abbrev bytes : tie.Else2 → List ℕ
-bytes c = c .before .before .before .before .args .input .now
+bytes c = start (c .before .before) .args .input .now
+
+-- it has no bad record
+good : (c : tie.Else2) → bad-record (bytes c) .answer ≡ 0
+good c = sym (ap (λ (x : Found). x .answer) (c .before .before .bad-record .ensures)) ∙ c .if2 .left
 
 abbrev whole : tie.Else2 → Result
 whole c = run fresh fresh-memory (bytes c)
@@ -42,7 +52,7 @@ ran-answers u =
 
 -- its answers fit into their buffer
 few : (c : tie.Else2) → length (whole c .answers) ≤ most-records
-few c = omega (arith, c .before .if1 .left, answers-read (bytes c) (eq-eqb _ _ (c .if2 .left)) .1)
+few c = omega (arith, c .before .before .before .if1 .left, answers-read (bytes c) (good c) .1)
 
 -- as many are read back as there are
 all-read : (d : tie.After-read-of) → d .read-of .result ≡ length (whole (from-run (from-read d)) .answers)
@@ -51,7 +61,7 @@ all-read d =
     let n = length (bytes c) / 16 in
     d .read-of .ensures
     ∙ ap (λ (e : Ended). cond (ltb (e .count) n) (e .count + 1) (e .count)) (ran (from-read d))
-    ∙ answers-read (bytes c) (eq-eqb _ _ (c .if2 .left)) .0
+    ∙ answers-read (bytes c) (good c) .0
 
 given-back : (d : tie.After-read-of) → take (d .read-of .result) (from-read d .run .last .1 .1 .1 .0) ≡ whole (from-run (from-read d)) .answers
 given-back d =
@@ -61,7 +71,7 @@ given-back d =
 -- and each has its line
 lined : (l : tie.After-lines)
     → let c = from-run (from-read (l .before .before .before)) in
-    Appended (c .before .before .before .before .args .out .now) (l .lines .last .0) 0 (l .lines .result) (lines 0 (whole c .answers))
+    Appended (start (c .before .before) .args .out .now) (l .lines .last .0) 0 (l .lines .result) (lines 0 (whole c .answers))
 lined l = alias (ap (lines 0) (given-back (l .before .before .before))) (l .lines .ensures)
 
 slice-aggregate-append : tie.Need-slice-aggregate-append
@@ -80,14 +90,11 @@ returns c =
     let f = p .before .before .before in
     from-start (text (f .before .before .before .args .input .now)) (simp (lt-ltb _ _ (f .if1 .taken))) (p .append .ensures)
 
-slice-aggregate-append-2 : tie.Need-slice-aggregate-append-2
-slice-aggregate-append-2 c = search needs
+bad-record-requires : tie.Need-bad-record-requires
+bad-record-requires c κs = search needs
 
-append-requires-2 : tie.Need-append-requires-2
-append-requires-2 c κs = search needs
-
-end-line-requires : tie.Need-end-line-requires
-end-line-requires c κs = search needs
+bad-line-requires : tie.Need-bad-line-requires
+bad-line-requires c κs = search needs
 
 same-length-2 : tie.Need-same-length-2
 same-length-2 c = search needs
@@ -96,10 +103,12 @@ returns-2 : tie.Need-returns-2
 unfolding text
 returns-2 c =
     let p = c .before .before in
-    let a = p .before .before .before .before in
-    let f = a .before .before .before in
-    from-start (text (f .before .before .before .before .args .input .now)) (simp (ne-eqb _ _ (f .if2 .taken), le-ltb _ _ (f .before .if1 .left)))
-    (joined (a .append2 .ensures) (p .end-line .ensures))
+    let f = p .before .before in
+    let b = f .before .before in
+    let w = b .bad-record .ensures in
+    from-start (text (start b .args .input .now))
+    (ap (λ (x : Found). bad-line (x .index) (x .answer)) w ∙ simp (ne-eqb _ 0 (λ z. f .if2 .taken (ap (λ (x : Found). x .answer) w ∙ z)), le-ltb _ _ (b .before .if1 .left)))
+    (p .bad-line .ensures)
 
 fresh-requires : tie.Need-fresh-requires
 fresh-requires c κs = search needs
@@ -125,8 +134,8 @@ slice-aggregate-lines c = all-read (c .before .before) ∙ sym (ap length (given
 lines-requires : tie.Need-lines-requires
 lines-requires c κs = omega (arith, ap length (given-back (c .before .before)), few (from-run (from-read (c .before .before))))
 
-end-line-requires-2 : tie.Need-end-line-requires-2
-end-line-requires-2 c κs =
+end-line-requires : tie.Need-end-line-requires
+end-line-requires c κs =
     let l = c .before .before .before in
     let r = from-run (from-read (l .before .before .before)) in
     omega (arith, lined l .far, lines-fit 0 (whole r .answers), few r)
@@ -141,8 +150,8 @@ returns-3 c =
     let l = e .before .before .before .before in
     let u = from-read (l .before .before .before) in
     let f = from-run u in
-    from-start (text (bytes f)) (simp (eq-eqb _ _ (f .if2 .left), le-ltb _ _ (f .before .if1 .left)))
-    (joined (lined l) (alias (ap (λ (x : Ended). end-line (x .count)) (ran u)) (e .end-line2 .ensures)))
+    from-start (text (bytes f)) (simp (eq-eqb _ 0 (good f), le-ltb _ _ (f .before .before .before .if1 .left)))
+    (joined (lined l) (alias (ap (λ (x : Ended). end-line (x .count)) (ran u)) (e .end-line .ensures)))
 
 pub text-spec : {M : Type 1} → statement M
 text-spec =
@@ -152,9 +161,8 @@ text-spec =
     append-requires
     same-length
     returns
-    slice-aggregate-append-2
-    append-requires-2
-    end-line-requires
+    bad-record-requires
+    bad-line-requires
     same-length-2
     returns-2
     fresh-requires
@@ -165,6 +173,6 @@ text-spec =
     array-share-prefix-answers
     slice-aggregate-lines
     lines-requires
-    end-line-requires-2
+    end-line-requires
     same-length-3
     returns-3)
