@@ -110,7 +110,7 @@ pub extern "C" fn naszeptan_step(m: RawMachine, mem: &mut [u64], e: Fields) -> R
     }
 }
 
-// A tape, record by record. The answers of the records have no place here.
+// A tape: the whole of it read first, then record by record. The answers of the records have no place here.
 #[no_mangle]
 pub extern "C" fn naszeptan_run(m: RawMachine, mem: &mut [u64], tape: &[u8]) -> RawEnded
     ensures { λ r. ⌜ r ≡ run m (now (mem .entry)) (now (tape .entry)) .ended ⌝ }

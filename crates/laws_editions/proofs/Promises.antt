@@ -30,9 +30,11 @@ use Rattle.editions.proofs.Laws.{record-of, length-bytes, length-turned, length
 use Rattle.laws_round.specs.Round.{Bytes}
 use Rattle.machine.specs.Valid.{machine-number}
 use Rattle.machine.specs.declared.Machine.{Machine}
+use Rattle.machine.proofs.Validity.{valid-passes}
 use Rattle.run.specs.Run as tape-run
 use Rattle.run.specs.Run.{Result, refused, play, run}
-use Rattle.laws_editions.specs.Promises.{ReadsWritten, WritesRead, OneRecord, KeepsRest, KeepsPast, SameEvents, ThereAndBack, Begins, OtherRefused, reads, Replays}
+use Rattle.run.proofs.Laws.{run-bad}
+use Rattle.laws_editions.specs.Promises.{ReadsWritten, WritesRead, OneRecord, KeepsRest, KeepsPast, SameEvents, ThereAndBack, Begins, OtherRefused, TwoNotRun, reads, Replays}
 use Rattle.laws_editions.proofs.Layouts.{record-read, record-bytes, record-has, record-fits}
 
 -- ---- one record
@@ -299,6 +301,16 @@ other-refused d tape buf b pos whole =
           simp (eq-eqb (length tape % record-size) 0 whole, le-ltb (length buf) (length tape) long)
           (bad-here (editions.number d) tape 0 (length tape / record-size) (omega (arith, whole, pos)) (λ z. let o : _≡_ {A = ℕ} 7 0 = sym n ∙ z in omega arith) ∙ ap (λ (i : ℕ). found i 0) n),
     )
+
+pub two-not-run : TwoNotRun
+unfolding bad-record read
+two-not-run m mem tape v b pos whole =
+    let seven = other-number Three (record-at tape 0) (length-take-le record-size tape (omega (arith, whole, pos))) (begins-first Two tape b) in
+    let n : read-number (record-at tape 0) ≡ 7 = ap number seven in
+    let first : bad-record tape ≡ found 7 0 =
+    simp (eq-eqb (length tape % record-size) 0 whole)
+    (bad-here read-number tape 0 (length tape / record-size) (omega (arith, whole, pos)) (λ z. let o : _≡_ {A = ℕ} 7 0 = sym n ∙ z in omega arith) ∙ ap (λ (i : ℕ). found i 0) n) in
+    run-bad m mem tape (valid-passes m (length mem) v) (ap (λ (x : Found). eqb (x .answer) 0) first) ∙ ap (λ (x : Found). refused x m mem) first
 
 -- ---- a converted tape that is run
 

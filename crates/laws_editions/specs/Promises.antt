@@ -1,7 +1,7 @@
 -- What is promised of the two editions of the tape (rules T8 to T13): round trips of a record in each, conversion there and back, a tape of the
 -- other edition, and a converted tape that is run. Proved in proofs/Promises.antt.
 use mathlib.Core.Path.{_≡_}
-use mathlib.Core.Bool.{not, cond}
+use mathlib.Core.Bool.{true, not, cond}
 use mathlib.Core.List.{List, [], _∷_}
 use Prim.Native.Nat.{ℕ, zero, suc, _+_, _/_, _%_, _≤_, _<_}
 use lib.Dec.{eqb}
@@ -17,7 +17,7 @@ use Rattle.editions.specs.Editions.{other, read, write-answer, write, convert-a
 use Rattle.editions.specs.declared.Edition.{Edition}
 use Rattle.editions.specs.declared.Edition.the-variants.{Two, Three}
 use Rattle.laws_round.specs.Round.{FieldsFit, Bytes}
-use Rattle.machine.specs.Valid.{machine-number}
+use Rattle.machine.specs.Valid.{valid, machine-number}
 use Rattle.machine.specs.declared.Machine.{Machine}
 use Rattle.run.specs.Run.{Result, refused, play, run}
 
@@ -77,6 +77,12 @@ abbrev pub OtherRefused : Type 0
 OtherRefused =
     (d : Edition) (tape buf : List ℕ) → Begins (other d) tape → 0 < length tape → length tape % record-size ≡ 0
     → (number (read d (record-at tape 0)) ≡ 7) × (length tape ≤ length buf → convert-answer d tape buf ≡ found 7 0)
+
+-- so a tape of edition two that is run as one of edition three is refused by 7 at its first record, and nothing of it is run
+abbrev pub TwoNotRun : Type 0
+TwoNotRun =
+    (m : Machine) (mem tape : List ℕ) → valid m (length mem) ≡ true → Begins Two tape → 0 < length tape → length tape % record-size ≡ 0
+    → run m mem tape ≡ refused (found 7 0) m mem
 
 -- what a reader answers for n records of a tape, from record k on
 unfoldable pub reads : Edition → List ℕ → ℕ → ℕ → List Read

@@ -1,4 +1,4 @@
--- A tape run on a machine, record by record (rules R1 to R4).
+-- A tape run on a machine: the whole tape read first, then record by record (rules R1 to R5).
 use Prim.Native.Nat.{ℕ, zero, suc, _+_, _/_}
 use mathlib.Core.Bool.{Bool, not, cond, _||_}
 use mathlib.Core.List.{List, [], _∷_}
@@ -46,7 +46,8 @@ unfoldable pub counted : Outcome → ℕ → Result
 counted o k =
     result (o .done .answer) (cond (goes-on (o .done .answer)) (k + 1) k) (o .done .machine) (o .memory) (o .done .answer ∷ [])
 
--- one record read and done: the reader's number ends the run, with the count; else the step's outcome
+-- one record read and done: the reader's number ends the run, with the count; else the step's outcome. A run has read all records before, so
+-- the first case is for who plays records that were not
 unfoldable pub one : Read → Machine → List ℕ → ℕ → Result
 one (Refused n) m mem k = result n k m mem (n ∷ [])
 one (Record w e) m mem k = counted (step m mem w e) k

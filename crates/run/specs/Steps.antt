@@ -75,6 +75,12 @@ BadRefused =
     (m : Machine) (mem tape : List ℕ) → valid m (length mem) ≡ true → (bad-record tape .answer ≡ 0 → ⊥)
     → run m mem tape ≡ refused (bad-record tape) m mem
 
+-- where none is bad every record of the tape is one, so the run ends at no other
+abbrev pub AllRecords : Type 0
+AllRecords =
+    (tape : List ℕ) → bad-record tape .answer ≡ 0
+    → (length tape % record-size ≡ 0) × ((k : ℕ) → k < length tape / record-size → number (read (record-at tape k)) ≡ 0)
+
 -- the first bad record of a tape of whole records is one that the reader refuses by its number, and none before it is refused
 abbrev pub FirstBad : Type 0
 FirstBad =

@@ -1,4 +1,4 @@
-// A tape run on a machine, record by record (rules R1 to R4).
+// A tape run on a machine: the whole tape read first, then record by record (rules R1 to R5).
 ghost use mathlib.Core.Path.{_≡_};
 ghost use mathlib.Core.Bool.{true};
 ghost use mathlib.Core.List.{[], _∷_};

@@ -1,4 +1,4 @@
--- One record of 16 bytes, read and written (rules T1 to T8).
+-- One record of 16 bytes, read and written (rules T1 to T7).
 use Prim.Native.Nat.{ℕ, _+_, _*_, _/_, _%_}
 use mathlib.Core.Bool.{Bool, not, cond, _&&_, _||_}
 use mathlib.Core.List.{List, [], _∷_}

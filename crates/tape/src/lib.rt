@@ -1,4 +1,4 @@
-// The tape: records of 16 bytes, one event each (rules T1 to T8).
+// The tape: records of 16 bytes, one event each (rules T1 to T7).
 pub mod reader;
 pub mod whole;
 pub mod writer;

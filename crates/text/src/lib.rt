@@ -101,7 +101,7 @@ fn lines(out: &mut [u8], answers: &[u8]) -> usize
     at
 }
 
-// How many of n records were read, where `count` were done: the one that stopped the run too.
+// How many of n records have an answer, where `count` were done: the one that stopped the run has one too.
 fn read_of(count: usize, n: usize) -> usize
     ensures { λ r. ⌜ r ≡ cond (ltb count n) (count + 1) count ⌝ }
 {
