@@ -14,11 +14,11 @@
  * is 0 the pointer is not used.
  *
  * Each call that can refuse gives a number of the table below. A step, a
- * reader or a writer that refuses changes nothing, and neither does a run that
- * is refused by 1, 2 or 6: the machine given back is the one handed in, bit
- * for bit but for padding, and memory or buffer stay as they were. A run that
- * stops at a later record keeps what the records before it did; the record
- * that stopped it has changed nothing.
+ * reader, a writer or a converter that refuses changes nothing, and neither
+ * does a run that is refused by 1, 2, 6, 7, 8 or 9: the machine given back is
+ * the one handed in, bit for bit but for padding, and memory or buffer stay as
+ * they were. A run that stops at an event keeps what the events before it did;
+ * the event that stopped it has changed nothing.
  */
 #ifndef NASZEPTAN_H
 #define NASZEPTAN_H
@@ -45,7 +45,7 @@ extern "C" {
 #define NASZEPTAN_PLACES 64        /* places of a transaction's log */
 #define NASZEPTAN_LEVELS 4095      /* the highest level of a transaction */
 #define NASZEPTAN_RECORD_SIZE 16   /* bytes of a tape record */
-#define NASZEPTAN_FIRST_BYTE 0xE3  /* first byte of each record */
+#define NASZEPTAN_FIRST_BYTE 0xE3  /* first byte of a record, edition three */
 
 /* The numbers given back. A run goes on after 0, 20 and 21. */
 enum naszeptan_answer {
@@ -56,7 +56,8 @@ enum naszeptan_answer {
   NASZEPTAN_OPERAND = 4,       /* register, BF, TO, SPR or index out of range */
   NASZEPTAN_HOST_IN_T = 5,     /* the host event on a Transactional thread */
   NASZEPTAN_TAPE_LENGTH = 6,   /* tape not a multiple of 16 bytes */
-  NASZEPTAN_BAD_FIRST_BYTE = 7,/* a record's first byte is not 0xE3 */
+  NASZEPTAN_BAD_FIRST_BYTE = 7,/* a record's first byte is not 0xE3; edition two:
+                                  above 3 */
   NASZEPTAN_NO_KIND = 8,       /* kind not 1 to 17 */
   NASZEPTAN_FIELD = 9,         /* an unused field or a fixed byte is not 0, or
                                   flags too big */

@@ -11,7 +11,8 @@ use crate::Answer;
 /// Nothing tells the edition from a tape's bytes, and a [`Tape`](crate::Tape)
 /// does not know its own: who reads, writes or converts names it. A tape that
 /// is taken for one of the other edition is refused by
-/// [`Answer::BadFirstByte`] at its first record. Where no edition is named, as
+/// [`Answer::BadFirstByte`] at its first record, unless it is empty or its
+/// length is ragged. Where no edition is named, as
 /// in a run, it is edition three.
 ///
 /// ```
@@ -95,6 +96,7 @@ impl fmt::Display for NotConverted {
         write!(f, "{}, ", answer.number())?;
         match (from, answer) {
             (Edition::Two, Answer::BadFirstByte) => f.write_str("the first byte is above 3"),
+            (Edition::Three, Answer::BadFirstByte) => f.write_str("the first byte is not 0xE3"),
             _ => write!(f, "{answer}"),
         }
     }

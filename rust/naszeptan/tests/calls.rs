@@ -33,6 +33,7 @@ fn version() {
     assert!(rules.contains(&format!("Version of the rules: {version}.{requests}, ")));
     let header = include_str!("../../../include/naszeptan.h");
     assert!(header.contains(&format!("NASZEPTAN_VERSION UINT32_C(0x{VERSION:08X})")));
+    assert!(header.contains(&format!("#define NASZEPTAN_LEVELS {LEVELS} ")));
 }
 
 #[test]
