@@ -48,6 +48,10 @@ pub number-in : (f : Fields) (zero : Bool) (n : ℕ) → n ≡ cond (zero && unu
     → 1 ≤ f .kind → f .kind ≤ length rows → n ≡ number (of-kind f zero)
 number-in f zero n p lo hi = p ∙ sym (judged-number f _) ∙ ap number (kind-in f zero _ refl lo hi)
 
+pub number-is : (k : ℕ) (f : Fields) (zero : Bool) (n : ℕ) → kind-right k ≡ true → f .kind ≡ k
+    → n ≡ cond (zero && unused-clear (row k) f) 0 9 → n ≡ number (of-kind f zero)
+number-is k f zero n h e p = p ∙ sym (judged-number f _) ∙ ap number (kind-is k f zero _ h e refl)
+
 -- a record of a tape as the code takes it
 pub part-is : (tape : List ℕ) (k : ℕ) → take (k * record-size + record-size - k * record-size) (drop (k * record-size) tape) ≡ record-at tape k
 part-is tape k =

@@ -24,13 +24,13 @@ fields-at-requires c κs = search needs
 fixed-zero-requires : tie.Need-fixed-zero-requires
 fixed-zero-requires c κs = search needs
 
-kind-number-requires : tie.Need-kind-number-requires
-kind-number-requires c κs = search needs
+frequent-number-requires : tie.Need-frequent-number-requires
+frequent-number-requires c κs = search needs
 
 returns-3 : tie.Need-returns-3
 returns-3 c =
     let start = c .before .before .before in
-    c .kind-number .ensures ∙ (λ j. number (of-kind (c .before .before .fields-at .ensures j) (c .before .fixed-zero .ensures j)))
+    c .frequent-number .ensures ∙ (λ j. number (of-kind (c .before .before .fields-at .ensures j) (c .before .fixed-zero .ensures j)))
     ∙ ap number (sym (begun-right _ (start .before .before .if1 .left) (start .if2 .left)))
 
 pub read-number-spec : {M : Type 1} → statement M
@@ -42,5 +42,5 @@ read-number-spec =
     returns-2
     fields-at-requires
     fixed-zero-requires
-    kind-number-requires
+    frequent-number-requires
     returns-3)
