@@ -24,10 +24,10 @@ use Rattle.tape.specs.FirstBad.{bad-record}
 use Rattle.tape.specs.declared.Read.{Read}
 use Rattle.tape.specs.declared.Read.the-variants.{Record, Refused}
 use Rattle.run.specs.Run.{Result, result, in-front, goes-on, reads, counted, one, play, run}
-use Rattle.run.specs.Steps.{events}
+use Rattle.laws_run.specs.Steps.{events}
 use Rattle.run.proofs.Laws.{run-bad, run-plays}
-use Rattle.run.proofs.Steps.{stop-refused}
-use Rattle.run.proofs.Counts.{ends-first}
+use Rattle.laws_run.proofs.Steps.{stop-refused}
+use Rattle.laws_run.proofs.Counts.{ends-first}
 use Rattle.laws_secrecy.specs.Secrecy.{Alike, Agree, tells, allowed, Until}
 use Rattle.laws_secrecy.specs.Runs.{SameRun, RunsSame}
 use Rattle.laws_secrecy.proofs.Step.{one-event}

@@ -9,7 +9,7 @@ use Rattle.machine.specs.Valid.{valid}
 use Rattle.step.specs.Step.{outcome, step}
 use Rattle.machine.specs.declared.Machine.{Machine}
 use Rattle.run.specs.Run.{Result, reads, run}
-use Rattle.run.specs.Steps.{events}
+use Rattle.laws_run.specs.Steps.{events}
 use Rattle.laws_secrecy.specs.Secrecy.{Alike, Until}
 
 pub record SameRun (w : ℕ) (r s : Result) : Type 0 where

@@ -1,3 +1,2 @@
 pub mod Run
 pub mod Inner
-pub mod Steps

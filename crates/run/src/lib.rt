@@ -7,6 +7,7 @@ ghost use lib.ListN.{length, set};
 ghost use lib.Seq.{sets};
 ghost use Rattle.machine.specs.Valid.{valid};
 ghost use Rattle.tape.specs.Tape.{record-size, read};
+ghost use Rattle.tape.specs.FirstBad.{read-number, first-bad};
 ghost use Rattle.rows.specs.Rows.{rows, machine-of};
 ghost use Rattle.run.specs.Inner.{filled};
 ghost use Rattle.run.specs.Run.{result, goes-on, reads, one, play, run};
@@ -48,7 +49,7 @@ struct Stopped {
     count: usize,
 }
 
-// One record read and done behind k others: a record that stops the run is not counted.
+// One record read and done behind k others: a record that stops the run is not counted. The reader has judged it, so its refusal cannot come.
 fn one(
     gpr: &mut [[u64; GPRS]; THREADS],
     cr: &mut [[u8; CR_FIELDS]; THREADS],
@@ -64,9 +65,10 @@ fn one(
 ) -> Stopped
     requires { ⌜ valid (machine-of threads (rows (now gpr) (now cr) (now kgpr) (now kcr) (now words) (now ix) (now vl))) (length (now mem)) ≡ true ⌝ }
     requires { ⌜ k < 2 ^ 63 ⌝ }
+    requires { ⌜ read-number (now bytes) ≡ 0 ⌝ }
     ensures { λ r. ⌜ result (r .answer) (r .count) (machine-of threads (rows (now (gpr .exit)) (now (cr .exit)) (now (kgpr .exit)) (now (kcr .exit)) (now (words .exit)) (now (ix .exit)) (now (vl .exit)))) (now (mem .exit)) (r .answer ∷ []) ≡ one (read (now (bytes .entry))) (machine-of threads (rows (now (gpr .entry)) (now (cr .entry)) (now (kgpr .entry)) (now (kcr .entry)) (now (words .entry)) (now (ix .entry)) (now (vl .entry)))) (now (mem .entry)) k ⌝ }
 {
-    let found = tape::reader::read_in_run(bytes);
+    let found = tape::reader::read_judged(bytes);
     let Read::Record { thread, event } = found else {
         return Stopped {
             answer: tape::number(found),
@@ -107,7 +109,7 @@ pub fn put(buffer: &mut [u8], k: usize, byte: u8)
     }
 }
 
-// The records of a tape on rows whose machine is valid: it stays so, and is not tested again.
+// The records of a tape, none of them bad, on rows whose machine is valid: it stays so, and is not tested again.
 fn records(
     gpr: &mut [[u64; GPRS]; THREADS],
     cr: &mut [[u8; CR_FIELDS]; THREADS],
@@ -122,6 +124,7 @@ fn records(
     answers: &mut [u8],
 ) -> Stopped
     requires { ⌜ valid (machine-of threads (rows (now gpr) (now cr) (now kgpr) (now kcr) (now words) (now ix) (now vl))) (length (now mem)) ≡ true ⌝ }
+    requires { ⌜ first-bad read-number (now tape) 0 (length (now tape) / record-size) .answer ≡ 0 ⌝ }
     ensures { λ r. ⌜ result (r .answer) (r .count) (machine-of threads (rows (now (gpr .exit)) (now (cr .exit)) (now (kgpr .exit)) (now (kcr .exit)) (now (words .exit)) (now (ix .exit)) (now (vl .exit)))) (now (mem .exit)) (now (answers .exit)) ≡ filled (now (answers .entry)) 0 (play (reads (now (tape .entry)) 0 (length (now (tape .entry)) / record-size)) 0 (machine-of threads (rows (now (gpr .entry)) (now (cr .entry)) (now (kgpr .entry)) (now (kcr .entry)) (now (words .entry)) (now (ix .entry)) (now (vl .entry)))) (now (mem .entry))) ⌝ }
 {
     let n = tape.len() / RECORD_SIZE;
@@ -154,9 +157,10 @@ fn records(
     }
 }
 
-// The tape on a machine that is valid: laid into rows, run there, and lifted out.
+// A tape without a bad record on a machine that is valid: laid into rows, run there, and lifted out.
 fn run_valid(m: Machine, mem: &mut [u64], tape: &[u8], answers: &mut [u8]) -> Ended
     requires { ⌜ valid m (length (now mem)) ≡ true ⌝ }
+    requires { ⌜ first-bad read-number (now tape) 0 (length (now tape) / record-size) .answer ≡ 0 ⌝ }
     ensures { λ r. ⌜ r ≡ play (reads (now (tape .entry)) 0 (length (now (tape .entry)) / record-size)) 0 m (now (mem .entry)) .ended ⌝ }
     ensures { λ r. ⌜ now (mem .exit) ≡ play (reads (now (tape .entry)) 0 (length (now (tape .entry)) / record-size)) 0 m (now (mem .entry)) .memory ⌝ }
     ensures { λ r. ⌜ now (answers .exit) ≡ sets (now (answers .entry)) 0 (play (reads (now (tape .entry)) 0 (length (now (tape .entry)) / record-size)) 0 m (now (mem .entry)) .answers) ⌝ }

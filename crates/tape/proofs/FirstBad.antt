@@ -2,12 +2,13 @@
 use mathlib.Core.Path.{_≡_, refl, sym, ap, _∙_}
 use mathlib.Core.Bool.{Bool, true, false, cond}
 use mathlib.Core.List.{List}
-use Prim.Native.Nat.{ℕ, zero, suc, _+_, _-_, _<_, _≤_}
+use Prim.Native.Nat.{ℕ, zero, suc, _+_, _-_, _/_, _%_, _<_, _≤_}
 use native.Mathlib.Omega.{arith}
 use lib.Dec.{eqb, ltb}
+use lib.ListN.{length}
 use borrow.Author.Tests.{eq-eqb, ne-eqb, eqb-true, eqb-false, ltb-true, ltb-false}
-use Rattle.tape.specs.Tape.{record-at}
-use Rattle.tape.specs.FirstBad.{found, first-bad}
+use Rattle.tape.specs.Tape.{record-size, record-at}
+use Rattle.tape.specs.FirstBad.{found, first-bad, read-number, bad-record}
 use Rattle.tape.specs.declared.Found.{Found}
 
 module _ (f : List ℕ → ℕ) (tape : List ℕ) where
@@ -79,3 +80,16 @@ module _ (f : List ℕ → ℕ) (tape : List ℕ) where
           let r = rest b in
           (omega (arith, r .0), r .1, λ i lo hi. before k i (first-bad f tape (k + 1) n .index) (eqb-true _ 0 p) (r .2) lo hi)
       go false p rest b = (omega arith, refl, λ i lo hi. absurd (omega arith))
+
+-- of a tape without a bad record: its length is right, and none of its records is bad
+pub whole-length : (tape : List ℕ) → bad-record tape .answer ≡ 0 → length tape % record-size ≡ 0
+unfolding bad-record
+whole-length tape z = go (eqb (length tape % record-size) 0) refl
+  where
+    go : (b : Bool) → eqb (length tape % record-size) 0 ≡ b → length tape % record-size ≡ 0
+    go true p = eqb-true _ 0 p
+    go false p = let o : _≡_ {A = ℕ} 6 0 = simp p at z in absurd (omega arith)
+
+pub all-judged : (tape : List ℕ) → bad-record tape .answer ≡ 0 → first-bad read-number tape 0 (length tape / record-size) .answer ≡ 0
+unfolding bad-record
+all-judged tape z = simp (eq-eqb (length tape % record-size) 0 (whole-length tape z)) at z

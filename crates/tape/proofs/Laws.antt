@@ -1,18 +1,20 @@
 -- What the reader's tests tell: its first two, and its match on the kind; a tape's record as code takes it; bytes laid over a buffer's start.
 use mathlib.Core.Path.{_≡_, refl, sym, ap, _∙_}
-use mathlib.Core.Bool.{Bool, true, false, cond, _&&_}
+use mathlib.Core.Bool.{Bool, true, false, not, cond, _&&_}
 use mathlib.Core.List.{List, _++_}
 use Prim.Native.Nat.{ℕ, _+_, _-_, _*_, _<_, _≤_}
 use native.Mathlib.Omega.{arith}
 use native.Mathlib.Nat.{zero-add}
 use lib.ListN.{length, take, drop}
 use lib.Seq.{sets, sets-eq}
-use borrow.Author.Tests.{le-leb, lt-leb, eq-eqb}
+use borrow.Author.Tests.{le-leb, lt-leb, eq-eqb, eqb-true}
+use lib.Dec.{eqb}
+use Rattle.event.specs.Event.{event-of}
 use Rattle.event.specs.Rows.{rows, kind-right, row}
 use Rattle.event.specs.declared.Fields.{Fields}
 use Rattle.tape.specs.Tape.{record-size, first-byte, byte, record-at, fields-at, fixed-zero, unused-clear, judged, of-kind, read, number}
 use Rattle.tape.specs.declared.Read.{Read}
-use Rattle.tape.specs.declared.Read.the-variants.{Refused}
+use Rattle.tape.specs.declared.Read.the-variants.{Record, Refused}
 
 -- a record of the right length that begins right is read by its kind
 pub begun-right : (bs : List ℕ) → length bs ≡ record-size → byte bs 0 ≡ first-byte → read bs ≡ of-kind (fields-at bs) (fixed-zero bs)
@@ -38,19 +40,19 @@ pub high : (f : Fields) (zero : Bool) → length rows < f .kind → Refused 8 �
 unfolding kind-right of-kind
 high f zero h = let l : 1 ≤ f .kind = omega arith in simp (le-leb 1 (f .kind) l, lt-leb (f .kind) (length rows) h)
 
--- the same of its number alone
-judged-number : (f : Fields) (b : Bool) → number (judged f b) ≡ cond b 0 9
-unfolding judged
-judged-number f true = refl
-judged-number f false = refl
-
-pub number-in : (f : Fields) (zero : Bool) (n : ℕ) → n ≡ cond (zero && unused-clear (row (f .kind)) f) 0 9
-    → 1 ≤ f .kind → f .kind ≤ length rows → n ≡ number (of-kind f zero)
-number-in f zero n p lo hi = p ∙ sym (judged-number f _) ∙ ap number (kind-in f zero _ refl lo hi)
-
-pub number-is : (k : ℕ) (f : Fields) (zero : Bool) (n : ℕ) → kind-right k ≡ true → f .kind ≡ k
-    → n ≡ cond (zero && unused-clear (row k) f) 0 9 → n ≡ number (of-kind f zero)
-number-is k f zero n h e p = p ∙ sym (judged-number f _) ∙ ap number (kind-is k f zero _ h e refl)
+-- a record that has no number is of the right length, and its fields tell its thread and its event
+pub taken : (bs : List ℕ) → number (read bs) ≡ 0 → (length bs ≡ record-size) × (read bs ≡ Record (fields-at bs .thread) (event-of (fields-at bs)))
+unfolding read of-kind judged
+taken bs = go (eqb (length bs) record-size) refl (eqb (byte bs 0) first-byte) (kind-right (fields-at bs .kind)) (fixed-zero bs && unused-clear (row (fields-at bs .kind)) (fields-at bs))
+  where
+    go : (a : Bool) → eqb (length bs) record-size ≡ a → (b c d : Bool)
+        → let r = cond (not a) (Refused 6) (cond (not b) (Refused 7) (cond (not c) (Refused 8) (cond (not d) (Refused 9) (Record (fields-at bs .thread) (event-of (fields-at bs)))))) in
+        number r ≡ 0 → (length bs ≡ record-size) × (r ≡ Record (fields-at bs .thread) (event-of (fields-at bs)))
+    go true e true true true z = (eqb-true _ _ e, refl)
+    go true e true true false z = absurd (omega (arith, z))
+    go true e true false d z = absurd (omega (arith, z))
+    go true e false c d z = absurd (omega (arith, z))
+    go false e b c d z = absurd (omega (arith, z))
 
 -- a record of a tape as the code takes it
 pub part-is : (tape : List ℕ) (k : ℕ) → take (k * record-size + record-size - k * record-size) (drop (k * record-size) tape) ≡ record-at tape k

@@ -3,7 +3,7 @@ ghost use mathlib.Core.Path.{_≡_};
 ghost use mathlib.Core.Bool.{_&&_};
 ghost use lib.ListN.{length};
 ghost use Rattle.event.specs.Event.{event-of};
-ghost use Rattle.tape.specs.Tape.{record-size, two, four, fields-at, fixed-zero, unused-clear, judged, of-kind, read};
+ghost use Rattle.tape.specs.Tape.{record-size, two, four, fields-at, fixed-zero, unused-clear, judged, of-kind, read, number};
 use crate::FIRST_BYTE;
 use crate::RECORD_SIZE;
 use crate::Read;
@@ -91,9 +91,10 @@ pub fn of_kind(f: Fields, zero: bool) -> Read
     }
 }
 
-// The same with a case for each frequent kind: tbegin., tend., ld, std, addi. There the compiler knows the row and the event's shape.
-fn frequent(f: Fields, zero: bool) -> Read
-    ensures { λ r. ⌜ r ≡ of-kind f zero ⌝ }
+// The event of fields of a right kind, with a case for each frequent kind: tbegin., tend., ld, std, addi. There the compiler knows the event's
+// shape.
+fn frequent(f: Fields) -> Event
+    ensures { λ e. ⌜ e ≡ event-of f ⌝ }
 {
     let kind = f.kind;
     let x = f.x;
@@ -102,12 +103,12 @@ fn frequent(f: Fields, zero: bool) -> Read
     let si = f.si;
     let one = f.flags == 1;
     match kind {
-        1 => judged(f, zero, event::row(1), Event::Tbegin { r: one }),
-        2 => judged(f, zero, event::row(2), Event::Tend { a: one }),
-        12 => judged(f, zero, event::row(12), Event::Ld { rt: x, index }),
-        13 => judged(f, zero, event::row(13), Event::Std { ra, index }),
-        14 => judged(f, zero, event::row(14), Event::Addi { rt: x, ra, si }),
-        _ => of_kind(f, zero),
+        1 => Event::Tbegin { r: one },
+        2 => Event::Tend { a: one },
+        12 => Event::Ld { rt: x, index },
+        13 => Event::Std { ra, index },
+        14 => Event::Addi { rt: x, ra, si },
+        _ => event::event_of(f),
     }
 }
 
@@ -125,15 +126,15 @@ pub fn read(s: &[u8]) -> Read
     of_kind(fields_at(s), fixed_zero(s))
 }
 
-// The same for a run, which alone calls it: the compiler then puts the frequent kinds into the run's loop (docs/PERFORMANCE.md).
-pub fn read_in_run(s: &[u8]) -> Read
+// The same for a run, which alone calls it, and has judged all records before (`whole`). The compiler then puts the frequent kinds into the
+// run's loop (docs/PERFORMANCE.md).
+pub fn read_judged(s: &[u8]) -> Read
+    requires { ⌜ number (read (now s)) ≡ 0 ⌝ }
     ensures { λ r. ⌜ r ≡ read (now (s .entry)) ⌝ }
 {
-    if s.len() == RECORD_SIZE {
-        let first = s[0];
-        if first == FIRST_BYTE {
-            return frequent(fields_at(s), fixed_zero(s));
-        }
+    let f = fields_at(s);
+    Read::Record {
+        thread: f.thread,
+        event: frequent(f),
     }
-    read(s)
 }

@@ -1,81 +1,110 @@
 // A whole tape, read before any of it is run (rule R1).
 ghost use mathlib.Core.Path.{_≡_};
-ghost use mathlib.Core.Bool.{_&&_, cond};
-ghost use Prim.Native.Nat.{_/_};
+ghost use Prim.Native.Nat.{_/_, _≤_};
+ghost use lib.Dec.{eqb};
 ghost use lib.ListN.{length};
-ghost use Rattle.tape.specs.Tape.{record-size, unused-clear, number, of-kind};
+ghost use Rattle.event.specs.Rows.{rows};
+ghost use Rattle.tape.specs.Tape.{record-size};
 ghost use Rattle.tape.specs.FirstBad.{read-number, first-bad, bad-record};
+ghost use Rattle.tape.specs.Inner.{table, within};
 use crate::FIRST_BYTE;
 use crate::Found;
 use crate::RECORD_SIZE;
 use crate::reader;
 use base::answer;
-use event::Fields;
-use event::rows::Row;
 
-// The number of a record whose row is known.
-fn clear_number(f: Fields, zero: bool, r: Row) -> u8
-    ensures { λ n. ⌜ n ≡ cond (zero && unused-clear r f) 0 9 ⌝ }
+const KINDS: usize = 17;
+
+// The largest value of each byte of a record, by the fields that its kind uses: any value where a byte is used, the largest flags of the row, and 0
+// where nothing may stand. First byte, kind and thread are judged elsewhere.
+const U: u8 = 255;
+
+const PLAIN: [u8; RECORD_SIZE] = [U, U, U, 0, 0, 0, 0, 0, 0, 0, 0, 0, 0, 0, 0, 0];
+
+const FLAG: [u8; RECORD_SIZE] = [U, U, U, 0, 0, 0, 1, 0, 0, 0, 0, 0, 0, 0, 0, 0];
+
+const FLAGS: [u8; RECORD_SIZE] = [U, U, U, 0, 0, 0, 3, 0, 0, 0, 0, 0, 0, 0, 0, 0];
+
+const RA: [u8; RECORD_SIZE] = [U, U, U, 0, U, 0, 0, 0, 0, 0, 0, 0, 0, 0, 0, 0];
+
+const X: [u8; RECORD_SIZE] = [U, U, U, U, 0, 0, 0, 0, 0, 0, 0, 0, 0, 0, 0, 0];
+
+const X_RA: [u8; RECORD_SIZE] = [U, U, U, U, U, 0, 0, 0, 0, 0, 0, 0, 0, 0, 0, 0];
+
+const X_RA_RB: [u8; RECORD_SIZE] = [U, U, U, U, U, U, 0, 0, 0, 0, 0, 0, 0, 0, 0, 0];
+
+const X_INDEX: [u8; RECORD_SIZE] = [U, U, U, U, 0, 0, 0, 0, U, U, U, U, 0, 0, 0, 0];
+
+const RA_INDEX: [u8; RECORD_SIZE] = [U, U, U, 0, U, 0, 0, 0, U, U, U, U, 0, 0, 0, 0];
+
+const X_RA_SI: [u8; RECORD_SIZE] = [U, U, U, U, U, 0, 0, 0, 0, 0, 0, 0, U, U, 0, 0];
+
+// The limits of each kind, kind 1 first: what the rows say (specs/Inner.antt).
+const LIMITS: [[u8; RECORD_SIZE]; KINDS] = [
+    FLAG,
+    FLAG,
+    RA,
+    X_RA_RB,
+    X_RA_RB,
+    FLAG,
+    X,
+    RA,
+    PLAIN,
+    X_RA,
+    X_RA,
+    X_INDEX,
+    RA_INDEX,
+    X_RA_SI,
+    PLAIN,
+    PLAIN,
+    FLAGS,
+];
+
+// Every byte of a record is within its limit. All are compared, so that the compiler may compare them at once.
+fn within(s: &[u8], limits: &[u8; RECORD_SIZE]) -> bool
+    requires { ⌜ length (now s) ≡ record-size ⌝ }
+    ensures { λ r. ⌜ r ≡ within (now (s .entry)) (now (limits .entry)) ⌝ }
 {
-    if zero & reader::unused_clear(r, f) {
-        return answer::DONE;
+    let mut all = true;
+    let mut i = RECORD_SIZE;
+    while 0 < i {
+        i -= 1;
+        all = all & (s[i] <= limits[i]);
     }
-    answer::FIELD
+    all
 }
 
-// Numbers 8 and 9.
-fn kind_number(f: Fields, zero: bool) -> u8
-    ensures { λ n. ⌜ n ≡ number (of-kind f zero) ⌝ }
+// Whether the reader takes a record of the right length. No event is built, and no branch goes by the kind, which a processor could not foretell.
+fn good(s: &[u8], limits: &[[u8; RECORD_SIZE]; KINDS]) -> bool
+    requires { ⌜ length (now s) ≡ record-size ⌝ }
+    requires { ⌜ now limits ≡ table ⌝ }
+    ensures { λ r. ⌜ r ≡ eqb (read-number (now (s .entry))) 0 ⌝ }
 {
-    let kind = f.kind;
-    match kind {
-        1..=17 => clear_number(f, zero, event::row(kind)),
-        _ => answer::NO_KIND,
-    }
-}
-
-// The same with a case for each frequent kind: tbegin., tend., ld, std, addi. There the compiler knows the row.
-fn frequent_number(f: Fields, zero: bool) -> u8
-    ensures { λ n. ⌜ n ≡ number (of-kind f zero) ⌝ }
-{
-    let kind = f.kind;
-    match kind {
-        1 => clear_number(f, zero, event::row(1)),
-        2 => clear_number(f, zero, event::row(2)),
-        12 => clear_number(f, zero, event::row(12)),
-        13 => clear_number(f, zero, event::row(13)),
-        14 => clear_number(f, zero, event::row(14)),
-        _ => kind_number(f, zero),
-    }
-}
-
-// The number by which the reader refuses a record, or 0. No event is built.
-fn read_number(s: &[u8]) -> u8
-    ensures { λ n. ⌜ n ≡ read-number (now (s .entry)) ⌝ }
-{
-    if s.len() != RECORD_SIZE {
-        return answer::TAPE_LENGTH;
-    }
     let first = s[0];
-    if first != FIRST_BYTE {
-        return answer::BAD_FIRST_BYTE;
+    let kind = s[1];
+    match kind {
+        1..=17 => {
+            let own = limits[kind as usize - 1];
+            (first == FIRST_BYTE) & within(s, &own)
+        }
+        _ => false,
     }
-    frequent_number(reader::fields_at(s), reader::fixed_zero(s))
 }
 
 // The first record that the reader refuses.
 fn first_bad(tape: &[u8]) -> Found
     ensures { λ r. ⌜ r ≡ first-bad read-number (now (tape .entry)) 0 (length (now (tape .entry)) / record-size) ⌝ }
 {
+    // The table is laid out once: where a constant is read by an index it is laid out anew.
+    let limits = LIMITS;
     let n = tape.len() / RECORD_SIZE;
     let mut k: usize = 0;
     while k < n {
         let at = k * RECORD_SIZE;
         let end = at + RECORD_SIZE;
-        let a = read_number(&tape[at..end]);
-        if a != answer::DONE {
+        if !good(&tape[at..end], &limits) {
             return Found {
-                answer: a,
+                answer: crate::number(reader::read(&tape[at..end])),
                 index: k,
             };
         }

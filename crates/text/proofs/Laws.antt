@@ -20,8 +20,8 @@ use Rattle.machine.specs.Valid as valid
 use Rattle.tape.specs.Tape.{record-size}
 use Rattle.tape.specs.FirstBad.{bad-record}
 use Rattle.run.specs.Run.{Result, run}
-use Rattle.run.specs.Steps.{Answered}
-use Rattle.run.proofs.Counts.{one-answer-each}
+use Rattle.laws_run.specs.Steps.{Answered}
+use Rattle.laws_run.proofs.Counts.{one-answer-each}
 use Rattle.text.specs.Inner.{Appended}
 use Rattle.text.specs.Text.{longest, decimal, line, bad-line, end-line, lines, text}
 

@@ -72,6 +72,15 @@ fn time_tapes(tapes: &[Tape], setting: &Setting) -> Vec<String> {
     past
 }
 
+/// Prints what reading a whole tape before it is run takes of each run.
+fn time_readings(tapes: &[Tape], setting: &Setting) {
+    println!("\nof which the whole tape is read first:");
+    for tape in tapes {
+        let times = measure::reading(&Start::fresh(), &tape.bytes, setting.rounds);
+        println!("{}", line(tape.name, setting.records, &times));
+    }
+}
+
 fn explain(tapes: &[Tape]) {
     println!(
         "\nmedians over the rounds, by the clock, which other work on the computer stretches;"
@@ -95,6 +104,7 @@ fn main() -> Result<ExitCode, String> {
     }
     let tapes = tapes::all(setting.records);
     let past = time_tapes(&tapes, &setting);
+    time_readings(&tapes, &setting);
     explain(&tapes);
     for line in &past {
         eprintln!("{line}");

@@ -82,17 +82,34 @@ fn in_turn<A: PartialEq + std::fmt::Debug>(
     }
 }
 
-/// Times one tape, which must run to its end.
-pub fn tape(start: &Start, tape: &[u8], rounds: Rounds) -> Times {
-    fn one<S: Side>(start: &Start, tape: &[u8]) -> Timed<S, Ended> {
+/// Times one tape, which must end with this answer.
+fn ending(start: &Start, tape: &[u8], answer: u8, rounds: Rounds) -> Times {
+    fn one<S: Side>(start: &Start, tape: &[u8], answer: u8) -> Timed<S, Ended> {
         let mut side = S::new(start);
         let watch = Watch::start();
         let ended = black_box(side.run(black_box(tape)));
         let spent = watch.spent();
-        assert_eq!(ended.answer, 0, "record {} is refused", ended.index);
+        assert_eq!(ended.answer, answer, "record {}", ended.index);
         (spent, side, ended)
     }
-    in_turn(rounds, || one(start, tape), || one(start, tape))
+    in_turn(
+        rounds,
+        || one(start, tape, answer),
+        || one(start, tape, answer),
+    )
+}
+
+/// Times one tape, which must run to its end.
+pub fn tape(start: &Start, tape: &[u8], rounds: Rounds) -> Times {
+    ending(start, tape, 0, rounds)
+}
+
+/// Times the reading of a whole tape alone (rule R1): its last byte, a fixed
+/// 0, is made 1, so that it is refused by 9 when all of it is read.
+pub fn reading(start: &Start, tape: &[u8], rounds: Rounds) -> Times {
+    let mut bad = tape.to_vec();
+    *bad.last_mut().expect("a tape has records") = 1;
+    ending(start, &bad, 9, rounds)
 }
 
 /// Times so many lone steps, all by the same event.

@@ -17,8 +17,8 @@ use Rattle.run.proofs.one.Tie as tie
 abbrev machine-at : (c : tie.Start) → Machine
 machine-at c = machine-of (c .args .threads) (rows (c .args .gpr .now) (c .args .cr .now) (c .args .kgpr .now) (c .args .kcr .now) (c .args .words .now) (c .args .ix .now) (c .args .vl .now))
 
-read-in-run-requires : tie.Need-read-in-run-requires
-read-in-run-requires c κs = search needs
+read-judged-requires : tie.Need-read-judged-requires
+read-judged-requires c κs = c .before .before .pre .1 .1
 
 enum-known-found : tie.Need-enum-known-found
 enum-known-found c = search needs
@@ -37,7 +37,7 @@ returns c =
     let s = r .before .before .before in
     let q = c .number .ensures ∙ ap number (e .enum-told .given .1) in
     (λ j. result (q j) (s .args .k) (machine-at s) (s .args .mem .now) (q j ∷ []))
-    ∙ sym (ap (λ (x : Read). one x (machine-at s) (s .args .mem .now) (s .args .k)) (sym (r .read-in-run .ensures) ∙ e .enum-told .given .1))
+    ∙ sym (ap (λ (x : Read). one x (machine-at s) (s .args .mem .now) (s .args .k)) (sym (r .read-judged .ensures) ∙ e .enum-told .given .1))
 
 step-requires : tie.Need-step-requires
 step-requires c κs = search needs
@@ -61,7 +61,7 @@ returns-2 c =
     let o = step (machine-at s) (s .args .mem .now) (f .found .given .0 .0) (f .found .given .0 .1 .0) in
     let g = ap (λ (x : Outcome). goes-on (x .done .answer)) (sym (t .step .ensures)) ∙ sym (c .before .goes-on .ensures) ∙ c .if1 .taken in
     ap (λ (x : Outcome). result (x .done .answer) (s .args .k + 1) (x .done .machine) (x .memory) (x .done .answer ∷ [])) (t .step .ensures)
-    ∙ sym (ap (λ (x : Read). one x (machine-at s) (s .args .mem .now) (s .args .k)) (sym (r .read-in-run .ensures) ∙ f .found .given .1) ∙ is-counted o (s .args .k) g)
+    ∙ sym (ap (λ (x : Read). one x (machine-at s) (s .args .mem .now) (s .args .k)) (sym (r .read-judged .ensures) ∙ f .found .given .1) ∙ is-counted o (s .args .k) g)
 
 same-length-2 : tie.Need-same-length-2
 same-length-2 c = search needs
@@ -76,13 +76,13 @@ returns-3 c =
     let o = step (machine-at s) (s .args .mem .now) (f .found .given .0 .0) (f .found .given .0 .1 .0) in
     let g = ap (λ (x : Outcome). goes-on (x .done .answer)) (sym (t .step .ensures)) ∙ sym (c .before .goes-on .ensures) ∙ c .if1 .left in
     ap (λ (x : Outcome). result (x .done .answer) (s .args .k) (x .done .machine) (x .memory) (x .done .answer ∷ [])) (t .step .ensures)
-    ∙ sym (ap (λ (x : Read). one x (machine-at s) (s .args .mem .now) (s .args .k)) (sym (r .read-in-run .ensures) ∙ f .found .given .1) ∙ not-counted o (s .args .k) g)
+    ∙ sym (ap (λ (x : Read). one x (machine-at s) (s .args .mem .now) (s .args .k)) (sym (r .read-judged .ensures) ∙ f .found .given .1) ∙ not-counted o (s .args .k) g)
 
 pub one-spec : {M : Type 1} → statement M
 one-spec =
     tie.close
     (tie.spec
-    read-in-run-requires
+    read-judged-requires
     enum-known-found
     enum-told
     number-requires

@@ -12,7 +12,9 @@ use Rattle.machine.specs.Valid.{valid}
 use Rattle.machine.specs.declared.Machine.{Machine}
 use Rattle.rows.specs.Rows.{rows, machine-of}
 use Rattle.tape.specs.Tape.{read, record-at}
+use Rattle.tape.specs.FirstBad.{read-number}
 use Rattle.tape.proofs.Laws.{part-is}
+use Rattle.tape.proofs.FirstBad.{each-good}
 use Rattle.run.specs.Inner.{filled}
 use Rattle.run.specs.Run.{Result, result, reads, one, play}
 use Rattle.run.proofs.Laws.{play-none, fills-stops, fills-goes, one-index, one-keeps}
@@ -88,7 +90,7 @@ loop-holds c =
     let a = s .args in
     let m = machine-of (a .threads) (rows (a .gpr .now) (a .cr .now) (a .kgpr .now) (a .kcr .now) (a .words .now) (a .ix .now) (a .vl .now)) in
     let e : length (a .tape .now) / 16 ≡ length (a .tape .now) / 16 - 0 = omega arith in
-    (omega arith, (refl, s .pre), refl, (λ j. filled (a .answers .now) 0 (play (reads (a .tape .now) 0 (e j)) 0 m (a .mem .now))))
+    (omega arith, (refl, s .pre .0), refl, (λ j. filled (a .answers .now) 0 (play (reads (a .tape .now) 0 (e j)) 0 m (a .mem .now))))
 
 mul-at : tie.Need-mul-at Inv-loop μ-loop
 mul-at c = omega (arith, small (c .before .before .before))
@@ -108,7 +110,12 @@ part-one-end c = omega arith
 one-requires : tie.Need-one-requires Inv-loop μ-loop
 one-requires c κs =
     let l = c .before .before .before .before .before .before .before .before .before .before in
-    (l .loop .inv .1 .1, omega (arith, small (l .before .before), c .before .before .before .before .before .before .before .before .before .loop-test .taken, l .loop .inv .0))
+    let t = c .before .before .before .before .before .before .before .before .before .loop-test .taken in
+    let s = start l in
+    let tape = s .args .tape .now in (
+      l .loop .inv .1 .1,
+      (omega (arith, small (l .before .before), t, l .loop .inv .0), ap read-number (part-is tape (l .loop .k)) ∙ each-good read-number tape (length tape / 16) (l .loop .k) (s .pre .1) t),
+    )
 
 put-requires : tie.Need-put-requires Inv-loop μ-loop
 put-requires c κs = search needs

@@ -10,6 +10,7 @@ use Rattle.machine.specs.declared.Machine.{Machine}
 use Rattle.machine.proofs.Validity.{passes-valid}
 use Rattle.tape.specs.FirstBad.{bad-record}
 use Rattle.tape.specs.declared.Found.{Found}
+use Rattle.tape.proofs.FirstBad.{all-judged}
 use Rattle.run.specs.Run.{refused}
 use Rattle.run.proofs.Laws.{run-unready, run-bad, run-plays}
 use Rattle.run.proofs.run.Statement.{statement}
@@ -44,7 +45,10 @@ returns-2 c =
     (ap (λ (x : Found). refused x (s .m) (s .mem .now) .ended) f ∙ sym (ap (λ x. x .ended) w), (sym (ap (λ x. x .memory) w), sym (ap (λ x. sets (s .answers .now) 0 (x .answers)) w)))
 
 run-valid-requires : tie.Need-run-valid-requires
-run-valid-requires c κs = passed (c .before .before .before .before .before)
+run-valid-requires c κs =
+    let l = c .before .before in
+    let b = l .before .before in
+    (passed (b .before), all-judged _ (sym (ap (λ (x : Found). x .answer) (b .bad-record .ensures)) ∙ l .if2 .left))
 
 same-length : tie.Need-same-length
 same-length c = search needs

@@ -36,13 +36,13 @@ left c =
 laid-requires : tie.Need-laid-requires
 laid-requires c κs =
     let s = c .before .before .before .before .before .before .before .before .before .before in
-    clean (s .args .m) (length (s .args .mem .now)) (s .pre)
+    clean (s .args .m) (length (s .args .mem .now)) (s .pre .0)
 
 records-requires : tie.Need-records-requires
 records-requires c κs =
     let l = c .before .before .before .before .before .before .before .before .before in
     let s = l .before .before .before .before .before .before .before .before .before .before .before in
-    ap (λ (m : Machine). valid m (length (s .args .mem .now))) (same l) ∙ s .pre
+    (ap (λ (m : Machine). valid m (length (s .args .mem .now))) (same l) ∙ s .pre .0, s .pre .1)
 
 lifted-requires : tie.Need-lifted-requires
 lifted-requires c κs = search needs

@@ -13,11 +13,11 @@ use Rattle.machine.specs.declared.Machine.{Machine}
 use Rattle.machine.proofs.Validity.{valid-passes}
 use Rattle.tape.specs.Tape.{record-size, read, record-at}
 use Rattle.tape.specs.FirstBad.{read-number, first-bad, bad-record}
-use Rattle.tape.proofs.FirstBad.{each-good, first-found}
+use Rattle.tape.proofs.FirstBad.{each-good, first-found, whole-length, all-judged}
 use Rattle.run.specs.Run.{Result, in-front, reads, one, play, run}
-use Rattle.run.specs.Steps.{Stops, EndsFirst, BadRefused, AllRecords, FirstBad, OneAnswerEach}
+use Rattle.laws_run.specs.Steps.{Stops, EndsFirst, BadRefused, AllRecords, FirstBad, OneAnswerEach}
 use Rattle.run.proofs.Laws.{one-answer, play-stops, play-goes, run-bad, run-plays}
-use Rattle.run.proofs.Steps.{one-stops}
+use Rattle.laws_run.proofs.Steps.{one-stops}
 
 -- the end of a run over n records from record k on, of which c are counted
 abbrev End : List ℕ → ℕ → ℕ → Result → ℕ → Type 0
@@ -81,13 +81,7 @@ pub bad-refused : BadRefused
 bad-refused m mem tape v b = run-bad m mem tape (valid-passes m (length mem) v) (ne-eqb _ 0 b)
 
 pub all-records : AllRecords
-unfolding bad-record
-all-records tape z = go (eqb (length tape % record-size) 0) refl
-  where
-    go : (b : Bool) → eqb (length tape % record-size) 0 ≡ b
-        → (length tape % record-size ≡ 0) × ((k : ℕ) → k < length tape / record-size → read-number (record-at tape k) ≡ 0)
-    go true p = (eqb-true _ 0 p, λ k h. each-good read-number tape (length tape / record-size) k (simp p at z) h)
-    go false p = let o : _≡_ {A = ℕ} 6 0 = simp p at z in absurd (omega arith)
+all-records tape z = (whole-length tape z, λ k h. each-good read-number tape (length tape / record-size) k (all-judged tape z) h)
 
 pub first-bad-one : FirstBad
 unfolding bad-record

@@ -20,10 +20,10 @@ use Rattle.tape.specs.Tape.{record-size, read, record-at}
 use Rattle.tape.specs.FirstBad.{found, bad-record}
 use Rattle.tape.specs.declared.Read.{Read}
 use Rattle.tape.specs.declared.Read.the-variants.{Record, Refused}
 use Rattle.run.specs.Run.{Result, refused, in-front, goes-on, reads, counted, one, play, run}
-use Rattle.run.specs.Steps.{fed, events, all-go, RunIsSteps, StopChangesNothing, CountedWent, Stops}
+use Rattle.laws_run.specs.Steps.{fed, events, all-go, RunIsSteps, StopChangesNothing, CountedWent, Stops}
 use Rattle.run.proofs.Laws.{uncounted, play-stops, play-goes}
-use Rattle.run.proofs.Answers.{effect-done}
+use Rattle.laws_run.proofs.Answers.{effect-done}
 
 -- an event that is not refused goes on
 passed-goes : (m : Machine) (mem : List ℕ) (w : ℕ) (e : Event) → goes-on (perform m mem w e .done .answer) ≡ true
