@@ -204,6 +204,34 @@ fn run_valid(m: Machine, mem: &mut [u64], tape: &[u8], answers: &mut [u8]) -> En
     }
 }
 
+// The whole records of a tape on a machine that is valid, each read as it is reached: a bad one stops it where it stands (rule Q6). They are judged
+// first all the same, up to the first bad one, so that they are run as a tape is.
+pub fn play(m: Machine, mem: &mut [u64], tape: &[u8], answers: &mut [u8]) -> Ended
+    requires { ⌜ valid m (length (now mem)) ≡ true ⌝ }
+    ensures { λ r. ⌜ r ≡ play (reads (now (tape .entry)) 0 (length (now (tape .entry)) / record-size)) 0 m (now (mem .entry)) .ended ⌝ }
+    ensures { λ r. ⌜ now (mem .exit) ≡ play (reads (now (tape .entry)) 0 (length (now (tape .entry)) / record-size)) 0 m (now (mem .entry)) .memory ⌝ }
+    ensures { λ r. ⌜ now (answers .exit) ≡ sets (now (answers .entry)) 0 (play (reads (now (tape .entry)) 0 (length (now (tape .entry)) / record-size)) 0 m (now (mem .entry)) .answers) ⌝ }
+{
+    let found = tape::whole::first_bad(tape);
+    let good = found.index;
+    let end = good * RECORD_SIZE;
+    let ended = run_valid(m, mem, &tape[..end], answers);
+    if ended.count != good {
+        return ended;
+    }
+    if found.answer == answer::DONE {
+        return ended;
+    }
+    put(answers, good, found.answer);
+    let machine = ended.machine;
+    Ended {
+        answer: found.answer,
+        count: good,
+        index: good,
+        machine,
+    }
+}
+
 // Any machine, memory and bytes may be handed in. The tests 1 and 2 come first, and then the whole tape is read, also an empty one. A bad record
 // keeps all of it from being run. The answer of record k goes to place k of answers, the stopping record's too; no other place changes.
 pub fn run(m: Machine, mem: &mut [u64], tape: &[u8], answers: &mut [u8]) -> Ended

@@ -1,6 +1,7 @@
 -- The first record that has a number: here, later, or none; and what is known of all records where none has one.
 use mathlib.Core.Path.{_≡_, refl, sym, ap, _∙_}
 use mathlib.Core.Bool.{Bool, true, false, cond}
+use mathlib.Core.Logic.{_⊎_, inl, inr}
 use mathlib.Core.List.{List}
 use Prim.Native.Nat.{ℕ, zero, suc, _+_, _-_, _/_, _%_, _<_, _≤_}
 use native.Mathlib.Omega.{arith}
@@ -80,6 +81,27 @@ module _ (f : List ℕ → ℕ) (tape : List ℕ) where
           let r = rest b in
           (omega (arith, r .0), r .1, λ i lo hi. before k i (first-bad f tape (k + 1) n .index) (eqb-true _ 0 p) (r .2) lo hi)
       go false p rest b = (omega arith, refl, λ i lo hi. absurd (omega arith))
+
+-- the records up to the one that is found have no number; it stands among all, or behind them where none is bad
+pub up-to : (f : List ℕ → ℕ) (tape : List ℕ) (n : ℕ) → let x = first-bad f tape 0 n in
+    (x .index ≤ n) × ((i : ℕ) → i < x .index → f (record-at tape i) ≡ 0)
+    × (((x .answer ≡ 0) × (x .index ≡ n)) ⊎ ((x .answer ≡ 0 → ⊥) × (x .index < n) × (f (record-at tape (x .index)) ≡ x .answer)))
+up-to f tape n = go (eqb (first-bad f tape 0 n .answer) 0) refl
+  where
+    x : Found
+    x = first-bad f tape 0 n
+
+    go : (b : Bool) → eqb (x .answer) 0 ≡ b → (x .index ≤ n) × ((i : ℕ) → i < x .index → f (record-at tape i) ≡ 0)
+        × (((x .answer ≡ 0) × (x .index ≡ n)) ⊎ ((x .answer ≡ 0 → ⊥) × (x .index < n) × (f (record-at tape (x .index)) ≡ x .answer)))
+    go true p =
+        let z = eqb-true (x .answer) 0 p in
+        let e : x .index ≡ 0 + n = ap (λ (y : Found). y .index) (none-bad f tape n 0 (λ i h. all-good f tape n 0 i z h)) in
+        (omega arith, (λ i h. each-good f tape n i z (omega arith)), inl (z, omega arith))
+    go false p =
+        let w = eqb-false (x .answer) 0 p in
+        let g = first-found f tape n 0 w in
+        let h : x .index < n = let a : x .index < 0 + n = g .0 in omega arith in
+        (omega arith, (λ i l. g .2 i (omega arith) l), inr (w, h, g .1))
 
 -- of a tape without a bad record: its length is right, and none of its records is bad
 pub whole-length : (tape : List ℕ) → bad-record tape .answer ≡ 0 → length tape % record-size ≡ 0

@@ -92,7 +92,7 @@ fn good(s: &[u8], limits: &[[u8; RECORD_SIZE]; KINDS]) -> bool
 }
 
 // The first record that the reader refuses.
-fn first_bad(tape: &[u8]) -> Found
+pub fn first_bad(tape: &[u8]) -> Found
     ensures { λ r. ⌜ r ≡ first-bad read-number (now (tape .entry)) 0 (length (now (tape .entry)) / record-size) ⌝ }
 {
     // The table is laid out once: where a constant is read by an index it is laid out anew.
