@@ -20,7 +20,7 @@ use Rattle.run.proofs.Laws.{one-answer, play-stops, play-goes, run-bad, run-pla
 use Rattle.laws_run.proofs.Steps.{one-stops}
 
 -- the end of a run over n records from record k on, of which c are counted
-abbrev End : List ℕ → ℕ → ℕ → Result → ℕ → Type 0
+abbrev pub End : List ℕ → ℕ → ℕ → Result → ℕ → Type 0
 End tape k n r c =
     ((c ≡ n) × (r .ended .answer ≡ 0) × (length (r .answers) ≡ n))
     ⊎ ((c < n)
@@ -28,10 +28,10 @@ End tape k n r c =
     × (length (r .answers) ≡ c + 1)
     × (getD (r .answers) c 0 ≡ r .ended .answer))
 
-abbrev Ends : List ℕ → ℕ → ℕ → Result → Type 0
+abbrev pub Ends : List ℕ → ℕ → ℕ → Result → Type 0
 Ends tape k n r = (c : ℕ) × (r .ended .count ≡ k + c) × End tape k n r c
 
-ends : (n : ℕ) (tape : List ℕ) (k : ℕ) (m : Machine) (mem : List ℕ) → Ends tape k n (play (reads tape k n) k m mem)
+pub ends : (n : ℕ) (tape : List ℕ) (k : ℕ) (m : Machine) (mem : List ℕ) → Ends tape k n (play (reads tape k n) k m mem)
 unfolding reads play
 ends zero tape k m mem = (0, omega arith, inl (refl, refl, refl))
 ends (suc n) tape k m mem = go (eqb (t .ended .count) k) refl (ends n tape (k + 1) (t .ended .machine) (t .memory))

@@ -54,6 +54,21 @@ taken bs = go (eqb (length bs) record-size) refl (eqb (byte bs 0) first-byte) (k
     go true e false c d z = absurd (omega (arith, z))
     go false e b c d z = absurd (omega (arith, z))
 
+-- the reader refuses by no 0
+pub refusal-number : (bs : List ℕ) → read bs ≡ Refused 0 → ⊥
+unfolding read of-kind judged
+refusal-number bs =
+    go (eqb (length bs) record-size) (eqb (byte bs 0) first-byte) (kind-right (fields-at bs .kind)) (fixed-zero bs && unused-clear (row (fields-at bs .kind)) (fields-at bs))
+  where
+    go : (a b c d : Bool)
+        → cond (not a) (Refused 6) (cond (not b) (Refused 7) (cond (not c) (Refused 8) (cond (not d) (Refused 9) (Record (fields-at bs .thread) (event-of (fields-at bs)))))) ≡ Refused 0
+        → ⊥
+    go true true true true z = let o : _≡_ {A = ℕ} 0 1 = cc in omega arith
+    go true true true false z = let o : _≡_ {A = ℕ} 9 0 = cc in omega arith
+    go true true false d z = let o : _≡_ {A = ℕ} 8 0 = cc in omega arith
+    go true false c d z = let o : _≡_ {A = ℕ} 7 0 = cc in omega arith
+    go false b c d z = let o : _≡_ {A = ℕ} 6 0 = cc in omega arith
+
 -- a record of a tape as the code takes it
 pub part-is : (tape : List ℕ) (k : ℕ) → take (k * record-size + record-size - k * record-size) (drop (k * record-size) tape) ≡ record-at tape k
 part-is tape k =
