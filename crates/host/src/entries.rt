@@ -3,7 +3,6 @@ ghost use mathlib.Core.Path.{_≡_};
 ghost use mathlib.Core.List.{List};
 ghost use Prim.Native.Nat.{ℕ};
 ghost use Rattle.machine.specs.Machine.{fresh};
-ghost use Rattle.machine.specs.Valid.{first-of};
 ghost use Rattle.crossing.specs.Crossing.{raw-machine};
 ghost use Rattle.host.specs.Host.{version, number, outcome, step, run, record-of, read, write-answer, write};
 ghost use Rattle.host.specs.Inner.{lone};
@@ -47,16 +46,6 @@ pub extern "C" fn naszeptan_valid(m: RawMachine, len: usize) -> u8
     answer::SIZE
 }
 
-// The first of two numbers that is not 0, else 0.
-fn first_of(k: u8, n: u8) -> u8
-    ensures { λ r. ⌜ r ≡ first-of k n ⌝ }
-{
-    if k == 0 {
-        return n;
-    }
-    k
-}
-
 // Nothing was done, and no one failed.
 fn untouched(answer: u8, m: RawMachine) -> RawDone
     ensures { λ r. ⌜ ((mem : List ℕ) → r ≡ outcome answer m mem .done) ⌝ }
@@ -78,7 +67,7 @@ fn lone(m: Machine, mem: &mut [u64], e: Fields) -> Done
     let ended = run::run(m, mem, &record, &mut answers);
     let machine = ended.machine;
     Done {
-        answer: first_of(ended.answer, answers[0]),
+        answer: session::first_of(ended.answer, answers[0]),
         machine,
     }
 }
@@ -96,7 +85,10 @@ pub extern "C" fn naszeptan_step(m: RawMachine, mem: &mut [u64], e: Fields) -> R
         event: _,
     } = found
     else {
-        return untouched(first_of(naszeptan_valid(m, len), tape::number(found)), m);
+        return untouched(
+            session::first_of(naszeptan_valid(m, len), tape::number(found)),
+            m,
+        );
     };
     if !crossing::right(m) {
         return untouched(naszeptan_valid(m, len), m);

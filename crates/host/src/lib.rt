@@ -2,6 +2,7 @@
 pub mod editions_two;
 pub mod entries;
 pub mod failed;
+pub mod sessions;
 
 use crossing::RawMachine;
 use event::Fields;
@@ -32,4 +33,22 @@ pub struct RawEnded {
 pub struct RawRecord {
     pub answer: u8,
     pub event: Fields,
+}
+
+// A session between two pieces (rule Q1), its machine as plain numbers.
+#[repr(C)]
+pub struct RawSession {
+    pub machine: RawMachine,
+    pub count: usize,
+    pub held: usize,
+    pub answer: u8,
+    pub bytes: [u8; 15],
+}
+
+// What feeding a piece gives: an answer, how many records it finished, and the session behind it.
+#[repr(C)]
+pub struct RawFed {
+    pub answer: u8,
+    pub finished: usize,
+    pub session: RawSession,
 }
