@@ -84,15 +84,36 @@ fn in_turn<A: PartialEq + std::fmt::Debug>(
 
 /// Times one tape, which must run to its end.
 pub fn tape(start: &Start, tape: &[u8], rounds: Rounds) -> Times {
-    fn one<S: Side>(start: &Start, tape: &[u8]) -> Timed<S, Ended> {
-        let mut side = S::new(start);
-        let watch = Watch::start();
-        let ended = black_box(side.run(black_box(tape)));
-        let spent = watch.spent();
-        assert_eq!(ended.answer, 0, "record {} is refused", ended.index);
-        (spent, side, ended)
-    }
-    in_turn(rounds, || one(start, tape), || one(start, tape))
+    in_turn(
+        rounds,
+        || run::<Rust>(start, tape),
+        || run::<Proved>(start, tape),
+    )
+}
+
+/// Times a session of the proved machine, fed in pieces of so many bytes, beside
+/// the Rust model's run of the tape, which must run to its end.
+pub fn session(start: &Start, tape: &[u8], piece: usize, rounds: Rounds) -> Times {
+    let proved = || {
+        timed(Proved::new(start), |side| {
+            side.session(black_box(tape), piece)
+        })
+    };
+    in_turn(rounds, || run::<Rust>(start, tape), proved)
+}
+
+/// One run of a tape.
+fn run<S: Side>(start: &Start, tape: &[u8]) -> Timed<S, Ended> {
+    timed(S::new(start), |side| side.run(black_box(tape)))
+}
+
+/// One timing of what ends as a run does.
+fn timed<S>(mut side: S, run: impl FnOnce(&mut S) -> Ended) -> Timed<S, Ended> {
+    let watch = Watch::start();
+    let ended = black_box(run(&mut side));
+    let spent = watch.spent();
+    assert_eq!(ended.answer, 0, "record {} is refused", ended.index);
+    (spent, side, ended)
 }
 
 /// Times so many lone steps, all by the same event.
