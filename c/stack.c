@@ -14,7 +14,9 @@ enum { PROMISED = 256 * 1024, SIZE = 1024 * 1024, FILL = 0xA5, RECORDS = 64 };
 static unsigned char stack[SIZE];
 static uint64_t memory[NASZEPTAN_MEMORY];
 static uint8_t tape[RECORDS * NASZEPTAN_RECORD_SIZE], two[sizeof tape];
+static uint8_t answers[RECORDS];
 static struct naszeptan_machine machine;
+static struct naszeptan_session session;
 static ucontext_t back, there;
 static volatile unsigned answer;
 
@@ -44,6 +46,24 @@ static void step(void) {
 static void run(void) {
   answer = naszeptan_run(machine, memory, NASZEPTAN_MEMORY, tape, sizeof tape)
                .answer;
+}
+
+static void opens(void) {
+  answer = naszeptan_open(machine, NASZEPTAN_MEMORY).answer;
+}
+
+/* All but the first five bytes, which the session holds. */
+static void feeds(void) {
+  answer = naszeptan_feed(session, memory, NASZEPTAN_MEMORY, tape + 5,
+                          sizeof tape - 5, answers, sizeof answers)
+               .answer;
+}
+
+static void closes(void) {
+  struct naszeptan_session whole = session;
+  whole.held = 0;
+  memset(whole.bytes, 0, sizeof whole.bytes);
+  answer = naszeptan_close(whole, NASZEPTAN_MEMORY).answer;
 }
 
 static void reads(void) {
@@ -85,10 +105,14 @@ static int held(const char *name, void (*call)(void)) {
 int main(void) {
   machine = naszeptan_fresh();
   fill_tape();
+  session = naszeptan_open(machine, NASZEPTAN_MEMORY);
+  session.held = 5;
+  memcpy(session.bytes, tape, session.held);
   return held("nothing", nothing) && held("valid", valid) &&
                  held("step", step) && held("run", run) &&
-                 held("read", reads) && held("three to two", to_two) &&
-                 held("two to three", to_three)
+                 held("open", opens) && held("feed", feeds) &&
+                 held("close", closes) && held("read", reads) &&
+                 held("three to two", to_two) && held("two to three", to_three)
              ? 0
              : 1;
 }

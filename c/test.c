@@ -19,6 +19,14 @@ _Static_assert(offsetof(struct naszeptan_done, failed) == 1, "failed");
 _Static_assert(sizeof(struct naszeptan_ended) == 6720, "ended");
 _Static_assert(offsetof(struct naszeptan_ended, count) == 8, "count");
 _Static_assert(offsetof(struct naszeptan_ended, index) == 16, "index");
+_Static_assert(sizeof(struct naszeptan_session) == 6728, "session");
+_Static_assert(offsetof(struct naszeptan_session, count) == 6696, "count");
+_Static_assert(offsetof(struct naszeptan_session, held) == 6704, "held");
+_Static_assert(offsetof(struct naszeptan_session, answer) == 6712, "answer");
+_Static_assert(offsetof(struct naszeptan_session, bytes) == 6713, "bytes");
+_Static_assert(sizeof(struct naszeptan_fed) == 6744, "fed");
+_Static_assert(offsetof(struct naszeptan_fed, finished) == 8, "finished");
+_Static_assert(offsetof(struct naszeptan_fed, session) == 16, "session");
 _Static_assert(sizeof(struct naszeptan_record) == 20, "record");
 _Static_assert(sizeof(struct naszeptan_converted) == 16, "converted");
 _Static_assert(offsetof(struct naszeptan_converted, index) == 8, "index");
@@ -64,6 +72,13 @@ static int same_machine(const struct naszeptan_machine *a,
         return 0;
   }
   return 1;
+}
+
+/* Whether all bytes from one place to another are 0xAA. */
+static int kept(const uint8_t *buffer, size_t from, size_t to) {
+  while (from < to && buffer[from] == 0xAA)
+    from++;
+  return from == to;
 }
 
 static struct naszeptan_event event(uint8_t kind, uint8_t thread) {
@@ -255,6 +270,218 @@ static void bad_records(void) {
   memory[0] = 0;
 }
 
+/* Field by field, as the machines. */
+static int same_session(const struct naszeptan_session *a,
+                        const struct naszeptan_session *b) {
+  return same_machine(&a->machine, &b->machine) && a->count == b->count &&
+         a->held == b->held && a->answer == b->answer &&
+         memcmp(a->bytes, b->bytes, sizeof a->bytes) == 0;
+}
+
+/* Four records that are done, one that is refused by 3, one behind it; and the
+ * answers of those that are looked at. */
+enum { STREAM = 6 * NASZEPTAN_RECORD_SIZE, STOP = 4 };
+static uint8_t stream[STREAM];
+static const uint8_t stream_answers[] = {0, 0, NASZEPTAN_HANDLED, 0,
+                                         NASZEPTAN_NO_THREAD};
+
+static void write_stream(void) {
+  const struct naszeptan_event events[] = {event(NASZEPTAN_TBEGIN, 0),
+                                           store(0, 3, 16),
+                                           event(NASZEPTAN_TABORT, 0),
+                                           store(1, 5, 0),
+                                           store(4, 5, 0),
+                                           store(1, 5, 1)};
+  write_tape(events, 6, stream);
+}
+
+/* A fresh session in which thread 1's store would be seen. */
+static struct naszeptan_session opened(void) {
+  struct naszeptan_machine m = naszeptan_fresh();
+  m.threads[1].live.gpr[5] = 7;
+  memory[0] = 0;
+  return naszeptan_open(m, NASZEPTAN_MEMORY);
+}
+
+/* The session closes by the number after so many records. */
+static void closes(const struct naszeptan_session *s, uint8_t number,
+                   size_t count) {
+  struct naszeptan_ended ended = naszeptan_close(*s, NASZEPTAN_MEMORY);
+  CHECK(ended.answer == number);
+  CHECK(ended.count == count && ended.index == count);
+  CHECK(same_machine(&ended.machine, &s->machine));
+}
+
+/* The stream's first bytes in pieces of one length: the session, once all
+ * answers are as they must be. */
+static struct naszeptan_session feed_stream(size_t bytes, size_t length) {
+  struct naszeptan_session s = opened();
+  size_t finished = 0;
+  for (size_t from = 0; from < bytes; from += length) {
+    uint8_t answers[8];
+    size_t some = bytes - from < length ? bytes - from : length;
+    memset(answers, 0xAA, sizeof answers);
+    struct naszeptan_fed fed =
+        naszeptan_feed(s, memory, NASZEPTAN_MEMORY, stream + from, some,
+                       answers, sizeof answers);
+    s = fed.session;
+    CHECK(fed.answer == s.answer && fed.finished <= 6);
+    CHECK(finished + fed.finished <= sizeof stream_answers);
+    CHECK(memcmp(answers, stream_answers + finished, fed.finished) == 0);
+    CHECK(kept(answers, fed.finished, sizeof answers));
+    finished += fed.finished;
+  }
+  CHECK(finished == s.count + (s.answer != 0));
+  return s;
+}
+
+/* docs/RULES.md, Q9: over any cutting it is the same. */
+static void pieces(void) {
+  struct naszeptan_ended run =
+      naszeptan_run(opened().machine, memory, NASZEPTAN_MEMORY, stream, STREAM);
+  CHECK(run.answer == NASZEPTAN_NO_THREAD && run.count == STOP);
+  for (size_t length = 1; length <= STREAM; length++) {
+    struct naszeptan_session s = feed_stream(STREAM, length);
+    closes(&s, NASZEPTAN_NO_THREAD, STOP);
+    CHECK(s.held == 0 && same_machine(&s.machine, &run.machine));
+    CHECK(memory[0] == 7 && memory[1] == 0 && memory[16] == 0);
+  }
+  for (size_t bytes = 0; bytes <= STOP * 16; bytes++) {
+    struct naszeptan_session s = feed_stream(bytes, 17);
+    CHECK(s.held == bytes % 16 && s.count == bytes / 16 && s.answer == 0);
+    CHECK(memcmp(s.bytes, stream + bytes / 16 * 16, s.held) == 0);
+    closes(&s, s.held == 0 ? NASZEPTAN_DONE : NASZEPTAN_TAPE_LENGTH,
+           bytes / 16);
+  }
+}
+
+/* Q5 and Q7: after a stop nothing changes; a short buffer has what it can. */
+static void stopped(void) {
+  struct naszeptan_session s = feed_stream(STREAM, STREAM);
+  uint8_t answers[8];
+  memset(answers, 0xAA, sizeof answers);
+  for (size_t bytes = 0; bytes <= STREAM; bytes += 8) {
+    struct naszeptan_fed fed = naszeptan_feed(
+        s, memory, NASZEPTAN_MEMORY, stream, bytes, answers, sizeof answers);
+    CHECK(fed.answer == NASZEPTAN_NO_THREAD && fed.finished == 0);
+    CHECK(same_session(&fed.session, &s));
+    CHECK(kept(answers, 0, sizeof answers));
+  }
+  for (size_t room = 0; room <= 5; room++) {
+    memset(answers, 0xAA, sizeof answers);
+    struct naszeptan_fed fed = naszeptan_feed(
+        opened(), memory, NASZEPTAN_MEMORY, stream, STREAM, answers, room);
+    CHECK(fed.finished == STOP + 1 && fed.session.count == STOP);
+    CHECK(memcmp(answers, stream_answers, room) == 0);
+    CHECK(kept(answers, room, sizeof answers));
+  }
+}
+
+/* Q6 and Q9: a bad record stops it where it stands, and what was done before
+ * stays; an unfinished one is not looked at. */
+static void bad_pieces(void) {
+  for (size_t n = 0; n < 3; n++)
+    for (size_t index = 0; index < STOP; index++) {
+      struct naszeptan_session before = feed_stream(16 * index, 16), s = before;
+      uint8_t bad[16];
+      memcpy(bad, stream + 16 * index, 16);
+      bad[spoilt[n].place] = spoilt[n].byte;
+      for (size_t k = 0; k < 16; k++) {
+        CHECK(s.answer == 0 && s.held == k);
+        closes(&s, k == 0 ? NASZEPTAN_DONE : NASZEPTAN_TAPE_LENGTH, index);
+        s = naszeptan_feed(s, memory, NASZEPTAN_MEMORY, bad + k, 1, NULL, 0)
+                .session;
+      }
+      closes(&s, spoilt[n].number, index);
+      CHECK(s.held == 0 && same_machine(&s.machine, &before.machine));
+    }
+}
+
+/* Feeding and closing are refused by the number, and nothing changes. */
+static void no_session(struct naszeptan_session s, size_t len, uint8_t number) {
+  static uint64_t before[NASZEPTAN_MEMORY];
+  uint8_t answers[8];
+  memset(answers, 0xAA, sizeof answers);
+  memcpy(before, memory, sizeof memory);
+  for (size_t bytes = 0; bytes <= STREAM; bytes += 12) {
+    struct naszeptan_fed fed =
+        naszeptan_feed(s, memory, len, stream, bytes, answers, sizeof answers);
+    CHECK(fed.answer == number && fed.finished == 0);
+    CHECK(same_session(&fed.session, &s));
+  }
+  CHECK(kept(answers, 0, sizeof answers));
+  CHECK(memcmp(before, memory, sizeof memory) == 0);
+  struct naszeptan_ended ended = naszeptan_close(s, len);
+  CHECK(ended.answer == number && ended.count == 0 && ended.index == 0);
+  CHECK(same_machine(&ended.machine, &s.machine));
+}
+
+/* Q2 and H10: bits that are no session, each wrong in one thing. */
+static void session_bits(void) {
+  static const uint8_t wrong[] = {1, 2, 6, 10, 14, 20, 21, 99, 255};
+  const struct naszeptan_session busy = feed_stream(37, 37);
+  struct naszeptan_session s = busy;
+  no_session(s, 17, NASZEPTAN_SIZE);
+  for (s.held = 16; s.held < 20; s.held++)
+    no_session(s, NASZEPTAN_MEMORY, NASZEPTAN_NO_MACHINE);
+  s.held = SIZE_MAX;
+  no_session(s, NASZEPTAN_MEMORY, NASZEPTAN_NO_MACHINE);
+  no_session(s, 0, NASZEPTAN_SIZE);
+  for (size_t k = busy.held; k < NASZEPTAN_HELD; k++) {
+    s = busy;
+    s.bytes[k] = 1;
+    no_session(s, NASZEPTAN_MEMORY, NASZEPTAN_NO_MACHINE);
+  }
+  s = busy;
+  s.answer = NASZEPTAN_BAD_THING; /* stopped, and yet bytes are held */
+  no_session(s, NASZEPTAN_MEMORY, NASZEPTAN_NO_MACHINE);
+  for (size_t n = 0; n < sizeof wrong; n++) {
+    s = opened();
+    s.answer = wrong[n];
+    no_session(s, NASZEPTAN_MEMORY, NASZEPTAN_NO_MACHINE);
+  }
+  s = busy;
+  s.machine.threads[3].control.state = 3;
+  no_session(s, NASZEPTAN_MEMORY, NASZEPTAN_NO_MACHINE);
+  no_session(s, 17, NASZEPTAN_SIZE);
+  s = busy;
+  s.machine.threads[3].control.nia = 1;
+  no_session(s, NASZEPTAN_MEMORY, NASZEPTAN_NO_MACHINE);
+  s.machine.count = 5;
+  no_session(s, NASZEPTAN_MEMORY, NASZEPTAN_SIZE);
+}
+
+/* Q3: what opening refuses is no session. And Q1: the count wraps. */
+static void openings(void) {
+  struct naszeptan_session s = opened();
+  CHECK(s.count == 0 && s.held == 0 && s.answer == 0);
+  CHECK(memcmp(s.bytes, (const uint8_t[NASZEPTAN_HELD]){0}, NASZEPTAN_HELD) ==
+        0);
+  closes(&s, NASZEPTAN_DONE, 0);
+  struct naszeptan_machine m = naszeptan_fresh();
+  s = naszeptan_open(m, 17);
+  CHECK(s.answer == NASZEPTAN_SIZE && same_machine(&s.machine, &m));
+  no_session(s, 17, NASZEPTAN_SIZE);
+  m.threads[0].control.pr = 2;
+  s = naszeptan_open(m, NASZEPTAN_MEMORY);
+  CHECK(s.answer == NASZEPTAN_NO_MACHINE && same_machine(&s.machine, &m));
+  no_session(s, NASZEPTAN_MEMORY, NASZEPTAN_NO_MACHINE);
+  s = opened();
+  s.count = UINT64_MAX;
+  s = naszeptan_feed(s, memory, NASZEPTAN_MEMORY, stream, 32, NULL, 0).session;
+  closes(&s, NASZEPTAN_DONE, 1);
+}
+
+static void sessions(void) {
+  write_stream();
+  pieces();
+  stopped();
+  bad_pieces();
+  session_bits();
+  openings();
+  memory[0] = 0;
+}
+
 /* The machine that the checks of failed go on with. */
 static struct naszeptan_machine desk;
 
@@ -439,13 +666,6 @@ static void records(void) {
 static const uint8_t three[16] = {0xE3, 0x0D, 0, 0, 3, 0, 0, 0, 0, 0, 0, 0x11};
 static const uint8_t two[16] = {0, 0x0D, 0, 3, 0, 0, 0, 0, 0x11};
 
-/* Whether all bytes from one place to another are 0xAA. */
-static int kept(const uint8_t *buffer, size_t from, size_t to) {
-  while (from < to && buffer[from] == 0xAA)
-    from++;
-  return from == to;
-}
-
 /* The reader of edition two refuses by the number, with an event of zeros. */
 static void not_read(const uint8_t *record, size_t bytes, uint8_t number) {
   struct naszeptan_record r = naszeptan_read_two(record, bytes);
@@ -561,6 +781,7 @@ int main(void) {
   refusals();
   conflict();
   bad_records();
+  sessions();
   failed_itself();
   failed_by_no_commit();
   failed_others();

@@ -3,9 +3,9 @@
  *
  * Link target/staticlib/libhost.a. It is code for x86-64 Linux and needs
  * nothing but memcpy, memmove and memset of the C library. It keeps no state,
- * prints nothing and allocates nothing: the machine (6,696 bytes) is passed
- * and given back by value; memory, tapes and buffers are lent by pointer and
- * length. Calls from several threads at once are fine where they lend
+ * prints nothing and allocates nothing: the machine (6,696 bytes), or a session
+ * with one (6,728 bytes), is passed and given back by value; memory, tapes and
+ * buffers are lent by pointer and length. Calls from several threads at once are fine where they lend
  * different memory. Leave a call 256 KB of stack.
  *
  * Any bits may be handed in. The one thing that a caller must keep: a pointer
@@ -18,7 +18,8 @@
  * does a run that is refused by 1, 2, 6, 7, 8 or 9: the machine given back is
  * the one handed in, bit for bit but for padding, and memory or buffer stay as
  * they were. A run that stops at an event keeps what the events before it did;
- * the event that stopped it has changed nothing.
+ * the event that stopped it has changed nothing. A session that stops, at an
+ * event or at a record that is none, does the same.
  */
 #ifndef NASZEPTAN_H
 #define NASZEPTAN_H
@@ -33,7 +34,7 @@ extern "C" {
 /* The version of the rules that this header was written for: the model's
  * version in the upper 16 bits, the change requests that have landed in the
  * lower. naszeptan_version() gives the archive's. */
-#define NASZEPTAN_VERSION UINT32_C(0x00040006)
+#define NASZEPTAN_VERSION UINT32_C(0x00040007)
 
 /* Sizes. */
 #define NASZEPTAN_THREADS 4        /* thread records of a machine */
@@ -46,12 +47,13 @@ extern "C" {
 #define NASZEPTAN_LEVELS 4095      /* the highest level of a transaction */
 #define NASZEPTAN_RECORD_SIZE 16   /* bytes of a tape record */
 #define NASZEPTAN_FIRST_BYTE 0xE3  /* first byte of a record, edition three */
+#define NASZEPTAN_HELD 15          /* most bytes that a session holds */
 
 /* The numbers given back. A run goes on after 0, 20 and 21. */
 enum naszeptan_answer {
   NASZEPTAN_DONE = 0,          /* done */
   NASZEPTAN_SIZE = 1,          /* memory length or thread count */
-  NASZEPTAN_NO_MACHINE = 2,    /* not a valid machine */
+  NASZEPTAN_NO_MACHINE = 2,    /* not a valid machine, or no session */
   NASZEPTAN_NO_THREAD = 3,     /* the event's thread is not below the count */
   NASZEPTAN_OPERAND = 4,       /* register, BF, TO, SPR or index out of range */
   NASZEPTAN_HOST_IN_T = 5,     /* the host event on a Transactional thread */
@@ -275,7 +277,8 @@ struct naszeptan_done {
  * done, the index of the record that the answer is about, and the machine after
  * exactly the records done. For 7, 8 and 9 the index is that of the first bad
  * record, for 6 the number of whole records, for 1 and 2 it is 0; nothing was
- * run then, and count is 0. Else it is count. */
+ * run then, and count is 0. Else it is count. For the close of a session see
+ * naszeptan_close. */
 struct naszeptan_ended {
   uint8_t answer;
   size_t count;
@@ -317,6 +320,57 @@ struct naszeptan_done naszeptan_step(struct naszeptan_machine machine,
 struct naszeptan_ended naszeptan_run(struct naszeptan_machine machine,
                                      uint64_t *memory, size_t len,
                                      const uint8_t *tape, size_t bytes);
+
+/* A tape in pieces, cut at any byte (docs/RULES.md, Q1 to Q9 and H10). Open a
+ * session, feed it piece after piece, each time with the session that the last
+ * feeding gave back, and close it. Over any cutting the answers, the count, the
+ * machine and the memory are the same. */
+
+/* What the caller keeps between two pieces (Q1). It is a session over a memory
+ * (Q2) where the machine is valid over it; held is at most 15, and the bytes at
+ * and past it are 0; and the answer is 0, or 3, 4, 5, 7, 8, 9, 11, 12 or 13 with
+ * held 0. Any other bits are refused by 2, or by 1 where memory length or thread
+ * count is wrong. */
+struct naszeptan_session {
+  struct naszeptan_machine machine; /* after exactly the records done */
+  uint64_t count;                   /* records done, modulo 2^64 */
+  size_t held;                      /* bytes held of an unfinished record */
+  uint8_t answer;                   /* 0, or the number that stopped it */
+  uint8_t bytes[NASZEPTAN_HELD];    /* the held bytes, then zeros */
+};
+
+/* What feeding a piece gives. */
+struct naszeptan_fed {
+  uint8_t answer;   /* the session's, or 1 or 2 where it was refused */
+  size_t finished;  /* records that this piece finished, the stopping one among
+                       them */
+  struct naszeptan_session session; /* the next one */
+};
+
+/* A session on this machine over a memory of len doublewords (Q3): nothing held,
+ * count 0, answer 0. Refused by 1 and 2: the answer is then that number, so that
+ * it is no session and each call with it is refused. */
+struct naszeptan_session naszeptan_open(struct naszeptan_machine machine,
+                                        size_t len);
+
+/* The next piece, of any number of bytes (Q4 to Q7). The held bytes and these,
+ * joined, are cut into records. Each is read by 7, 8 and 9 and done before the
+ * next is looked at; fewer than 16 bytes remain and are held. A record's answer
+ * goes to the lent answers, the first that this piece finished to place 0, as
+ * far as there is room: (held + bytes) / 16 places are enough. Any answer but 0,
+ * 20 and 21 stops the session. Once it has stopped, pieces change nothing and
+ * finish nothing. Refused by 1 and 2: session, memory and answers then stay as
+ * they were. Memory, piece and answers must not overlap. */
+struct naszeptan_fed naszeptan_feed(struct naszeptan_session session,
+                                    uint64_t *memory, size_t len,
+                                    const uint8_t *piece, size_t bytes,
+                                    uint8_t *answers, size_t room);
+
+/* How the tape ended, if no piece follows (Q8): the session's answer if it has
+ * stopped, else 6 if bytes are held, else 0; the count, as index too; and the
+ * machine. Refused by 1 and 2, with count and index 0. */
+struct naszeptan_ended naszeptan_close(struct naszeptan_session session,
+                                       size_t len);
 
 /* One record of 16 bytes as an event. Refused by 6, 7, 8, 9 in this order. */
 struct naszeptan_record naszeptan_read(const uint8_t *record, size_t bytes);

@@ -1,6 +1,7 @@
 //! Times the run of both sides over the same tapes: in one process, in turn,
-//! from the fresh machine, and holds their ends to be equal. Ends with status
-//! 1 where the proved side takes more than three times as long.
+//! from the fresh machine, and holds their ends to be equal; and so a session of
+//! the proved side, fed in one piece and in many. Ends with status 1 where the
+//! proved side takes more than three times as long.
 //!
 //! `cargo run --release -p bench -- [--records N] [--rounds R] [--proved-rounds P] [--limit X|none]`
 //! `cargo run --release -p bench -- growth [--records N] [--rounds R] [--proved-rounds P]`
@@ -16,7 +17,7 @@ mod time;
 use std::process::ExitCode;
 
 use measure::{each, Times};
-use naszeptan::KINDS;
+use naszeptan::{KINDS, PIECE};
 use setting::Setting;
 use sides::Start;
 use tapes::Tape;
@@ -51,25 +52,40 @@ fn shares(tape: &[u8]) -> String {
     lines.join("\n")
 }
 
+/// How a tape is handed in: the row's name, and the bytes of a session's piece
+/// where it is one.
+const WAYS: [(&str, Option<usize>); 3] = [
+    ("", None),
+    ("  in one piece", Some(usize::MAX)),
+    ("  in pieces of 64 KiB", Some(PIECE)),
+];
+
 /// Prints the table and gives what passes the limit, a line for each.
 fn time_tapes(tapes: &[Tape], setting: &Setting) -> Vec<String> {
     println!(
         "\n{:22}{:>12}{:>14}{:>16}{:>14}{:>9}{:>16}",
         "tape", "proved, ms", "Rust, ms", "proved, ns/rec", "Rust, ns/rec", "ratio", "on processor"
     );
-    let mut past = Vec::new();
-    for tape in tapes {
-        let times = measure::tape(&Start::fresh(), &tape.bytes, setting.rounds);
-        println!("{}", line(tape.name, setting.records, &times));
-        let ratio = times.ratio();
-        if let Some(limit) = setting.limit.filter(|&limit| ratio > limit) {
-            let name = tape.name;
-            past.push(format!(
-                "bench: {name}: the ratio {ratio:.2} passes {limit}"
-            ));
-        }
-    }
-    past
+    let rows = tapes
+        .iter()
+        .flat_map(|tape| WAYS.map(|(way, piece)| (tape, way, piece)));
+    rows.filter_map(|(tape, way, piece)| time_tape(tape, way, piece, setting))
+        .collect()
+}
+
+/// Prints one row; a line where it passes the limit.
+fn time_tape(tape: &Tape, way: &str, piece: Option<usize>, setting: &Setting) -> Option<String> {
+    let (start, rounds) = (Start::fresh(), setting.rounds);
+    let (times, shown) = match piece {
+        None => (measure::tape(&start, &tape.bytes, rounds), tape.name),
+        Some(piece) => (measure::session(&start, &tape.bytes, piece, rounds), way),
+    };
+    println!("{}", line(shown, setting.records, &times));
+    let (name, ratio) = (tape.name, times.ratio());
+    let limit = setting.limit.filter(|&limit| ratio > limit)?;
+    Some(format!(
+        "bench: {name}{way}: the ratio {ratio:.2} passes {limit}"
+    ))
 }
 
 /// Prints what reading a whole tape before it is run takes of each run.
@@ -86,7 +102,8 @@ fn explain(tapes: &[Tape]) {
         "\nmedians over the rounds, by the clock, which other work on the computer stretches;"
     );
     println!("the last ratio is of the mean times on the processor. After each pair of runs");
-    println!("machines and memories were equal.");
+    println!("machines and memories were equal. In pieces: a session of the proved machine, with");
+    println!("room for each answer, beside the Rust model's run.");
     for tape in tapes {
         println!("{}: {}", tape.name, tape.about);
     }

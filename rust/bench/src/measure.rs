@@ -82,23 +82,6 @@ fn in_turn<A: PartialEq + std::fmt::Debug>(
     }
 }
 
-/// Times one tape, which must end with this answer.
-fn ending(start: &Start, tape: &[u8], answer: u8, rounds: Rounds) -> Times {
-    fn one<S: Side>(start: &Start, tape: &[u8], answer: u8) -> Timed<S, Ended> {
-        let mut side = S::new(start);
-        let watch = Watch::start();
-        let ended = black_box(side.run(black_box(tape)));
-        let spent = watch.spent();
-        assert_eq!(ended.answer, answer, "record {}", ended.index);
-        (spent, side, ended)
-    }
-    in_turn(
-        rounds,
-        || one(start, tape, answer),
-        || one(start, tape, answer),
-    )
-}
-
 /// Times one tape, which must run to its end.
 pub fn tape(start: &Start, tape: &[u8], rounds: Rounds) -> Times {
     ending(start, tape, 0, rounds)
@@ -110,6 +93,40 @@ pub fn reading(start: &Start, tape: &[u8], rounds: Rounds) -> Times {
     let mut bad = tape.to_vec();
     *bad.last_mut().expect("a tape has records") = 1;
     ending(start, &bad, 9, rounds)
+}
+
+/// Times one tape, which must end with this answer.
+fn ending(start: &Start, tape: &[u8], answer: u8, rounds: Rounds) -> Times {
+    in_turn(
+        rounds,
+        || run::<Rust>(start, tape, answer),
+        || run::<Proved>(start, tape, answer),
+    )
+}
+
+/// Times a session of the proved machine, fed in pieces of so many bytes, beside
+/// the Rust model's run of the tape, which must run to its end.
+pub fn session(start: &Start, tape: &[u8], piece: usize, rounds: Rounds) -> Times {
+    let proved = || {
+        timed(Proved::new(start), 0, |side| {
+            side.session(black_box(tape), piece)
+        })
+    };
+    in_turn(rounds, || run::<Rust>(start, tape, 0), proved)
+}
+
+/// One run of a tape.
+fn run<S: Side>(start: &Start, tape: &[u8], answer: u8) -> Timed<S, Ended> {
+    timed(S::new(start), answer, |side| side.run(black_box(tape)))
+}
+
+/// One timing of what ends as a run does, with this answer.
+fn timed<S>(mut side: S, answer: u8, run: impl FnOnce(&mut S) -> Ended) -> Timed<S, Ended> {
+    let watch = Watch::start();
+    let ended = black_box(run(&mut side));
+    let spent = watch.spent();
+    assert_eq!(ended.answer, answer, "record {}", ended.index);
+    (spent, side, ended)
 }
 
 /// Times so many lone steps, all by the same event.

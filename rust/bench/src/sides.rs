@@ -4,6 +4,7 @@
 use compare::pair::to_raw;
 use compare::sides::{self, Archive, Side as _};
 use model::machine::{Machine, MAX_MEMORY};
+use model::tape::RECORD;
 use model::{Ended, Event};
 use naszeptan::raw;
 
@@ -108,6 +109,22 @@ impl Side for Proved {
 
     fn valid(&self) -> u8 {
         Archive.valid(&self.machine, self.memory.len())
+    }
+}
+
+impl Proved {
+    /// The end of a session that is fed the tape in pieces of so many bytes,
+    /// with room for each record's answer.
+    pub fn session(&mut self, tape: &[u8], piece: usize) -> Ended {
+        let len = self.memory.len();
+        let mut answers = vec![0; piece.min(tape.len()) / RECORD + 1];
+        let mut session = Archive.open(&self.machine, len);
+        for piece in tape.chunks(piece) {
+            Archive.feed(&mut session, &mut self.memory, piece, &mut answers);
+        }
+        let (ended, machine) = Archive.close(&session, len);
+        self.machine = machine;
+        ended
     }
 }
 

@@ -14,6 +14,7 @@ use crate::pair::Pair;
 use crate::past::Past;
 use crate::plan::Plan;
 use crate::runs;
+use crate::sessions;
 use crate::shrink::Case;
 use crate::sides::{record, Side};
 use crate::sights;
@@ -81,8 +82,8 @@ fn rng(seed: u64, batch: u64) -> Rng {
     Rng::new(seed ^ batch.wrapping_add(1).wrapping_mul(0xD6E8_FEB8_6659_FD93))
 }
 
-/// One batch: this many events in sequences, then runs, the other calls, and
-/// those of edition two.
+/// One batch: this many events in sequences, then runs, the other calls, those
+/// of edition two, and sessions.
 fn batch<S: Side>(
     side: &S,
     seed: u64,
@@ -100,7 +101,8 @@ fn batch<S: Side>(
     }
     runs::all(side, &mut rng, counts)?;
     calls::all(side, &mut rng, counts)?;
-    editions::all(side, &mut rng, counts)
+    editions::all(side, &mut rng, counts)?;
+    sessions::all(side, &mut rng, counts)
 }
 
 /// One sequence of events from one start, compared after each.

@@ -65,7 +65,7 @@ fn valid<S: Side>(side: &S, rng: &mut Rng, counts: &mut Counts) -> Result<(), Fo
 }
 
 /// Puts into one thread record a value that its field cannot have.
-fn spoil(rng: &mut Rng, m: &mut raw::Machine) -> String {
+pub(crate) fn spoil(rng: &mut Rng, m: &mut raw::Machine) -> String {
     let thread = rng.below(raw::THREADS);
     let control = &mut m.threads[thread].control;
     let (name, field, least) = match rng.below(4) {

@@ -8,7 +8,7 @@ use naszeptan::{raw, Kind, KINDS};
 use crate::cells::{self, Before, Call, CALLS, CALL_ROWS, NUMBERS, SHOWN, STATES};
 use crate::editions;
 use crate::masks::{self, Mask, MASKS};
-use crate::{runs, sights};
+use crate::{runs, sessions, sights};
 
 /// From so many events on, all that can be met must be. Of a quarter of them the
 /// rarest are met three to five times, so that fewer may miss one by chance.
@@ -36,6 +36,8 @@ pub struct Counts {
     pub runs: runs::cells::Met,
     /// What was met of edition two.
     pub editions: editions::cells::Met,
+    /// What was met of sessions.
+    pub sessions: sessions::cells::Met,
 }
 
 impl Default for Counts {
@@ -48,6 +50,7 @@ impl Default for Counts {
             records: 0,
             runs: runs::cells::Met::default(),
             editions: editions::cells::Met::default(),
+            sessions: sessions::cells::Met::default(),
         }
     }
 }
@@ -102,6 +105,7 @@ impl Counts {
             .chain([&self.records])
             .chain(self.runs.numbers())
             .chain(self.editions.numbers())
+            .chain(self.sessions.numbers())
             .copied()
             .collect()
     }
@@ -116,6 +120,7 @@ impl Counts {
             .chain([&mut self.records])
             .chain(self.runs.numbers_mut())
             .chain(self.editions.numbers_mut())
+            .chain(self.sessions.numbers_mut())
             .zip(numbers)
             .for_each(|(ours, theirs)| *ours += theirs);
     }
@@ -153,7 +158,8 @@ impl Counts {
             .collect()
     }
 
-    /// Every cell, mask, sight and call, and all of runs and of edition two.
+    /// Every cell, mask, sight and call, and all of runs, edition two and
+    /// sessions.
     fn all(&self) -> impl Iterator<Item = Row> + '_ {
         let sights = self.sights.iter().zip(&sights::ALL);
         let sights = sights.map(|(&met, (_, name, _))| Row {
@@ -167,6 +173,7 @@ impl Counts {
             .chain(self.all_calls())
             .chain(self.runs.rows())
             .chain(self.editions.rows())
+            .chain(self.sessions.rows())
     }
 
     fn all_masks(&self) -> impl Iterator<Item = Row> + '_ {
@@ -224,7 +231,7 @@ impl Counts {
         for (met, (_, name, _)) in self.sights.iter().zip(&sights::ALL) {
             let _ = writeln!(text, "{met:>9}  {name}");
         }
-        text + &self.runs.table() + &self.editions.tables()
+        text + &self.runs.table() + &self.editions.tables() + &self.sessions.tables()
     }
 
     fn write_cells(&self, text: &mut String) -> std::fmt::Result {

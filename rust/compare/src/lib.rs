@@ -14,8 +14,10 @@
 //! - [`batch`]: a numbered piece of the comparison, and a worker's share.
 //! - [`workers`]: the shares, each in a process of its own.
 //! - [`runs`]: tapes, those too of which nothing may be run.
+//! - [`sessions`]: tapes in pieces, and bits that are no session.
 //! - [`calls`]: valid, read and write, and bits that are no machine.
 //! - [`editions`]: edition two, and the converters between the editions.
+//! - [`lent`]: what is lent to a call, and what beside it must stay.
 //! - [`shrink`]: the shortest tape that still shows a difference.
 
 #![forbid(unsafe_code)]
@@ -26,11 +28,13 @@ pub mod calls;
 pub mod cells;
 pub mod counts;
 pub mod editions;
+pub mod lent;
 pub mod masks;
 pub mod pair;
 pub mod past;
 pub mod plan;
 pub mod runs;
+pub mod sessions;
 pub mod shrink;
 pub mod sides;
 pub mod sights;

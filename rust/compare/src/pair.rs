@@ -83,23 +83,7 @@ impl Pair {
         if beside.into_iter().any(|&d| d != KEPT) {
             return Err("a doubleword beside the lent memory has changed".to_string());
         }
-        if self.model.count != self.raw.count {
-            return Err(format!(
-                "thread count: model {}, proved {}",
-                self.model.count, self.raw.count
-            ));
-        }
-        let threads = self.model.threads.iter().zip(&self.raw.threads);
-        for (n, (ours, theirs)) in threads.enumerate() {
-            if let Some(field) = first_difference(ours, theirs) {
-                let ours = shown(field, &to_raw_thread(ours));
-                let theirs = shown(field, theirs);
-                return Err(format!(
-                    "thread {n}, {field}\nmodel:  {ours}\nproved: {theirs}"
-                ));
-            }
-        }
-        Ok(())
+        same_machine(&self.model, &self.raw)
     }
 
     fn memory_difference(&self) -> String {
@@ -111,6 +95,25 @@ impl Pair {
             self.memory[at], lent[at]
         )
     }
+}
+
+/// Whether the machines are equal in everything, or where they differ first.
+pub(crate) fn same_machine(model: &Machine, raw: &raw::Machine) -> Result<(), String> {
+    if model.count != raw.count {
+        let (ours, theirs) = (model.count, raw.count);
+        return Err(format!("thread count: model {ours}, proved {theirs}"));
+    }
+    let threads = model.threads.iter().zip(&raw.threads);
+    for (n, (ours, theirs)) in threads.enumerate() {
+        if let Some(field) = first_difference(ours, theirs) {
+            let ours = shown(field, &to_raw_thread(ours));
+            let theirs = shown(field, theirs);
+            return Err(format!(
+                "thread {n}, {field}\nmodel:  {ours}\nproved: {theirs}"
+            ));
+        }
+    }
+    Ok(())
 }
 
 fn same_registers(ours: &Registers, theirs: &raw::Registers) -> bool {

@@ -89,7 +89,7 @@ impl Case {
 
 /// Leaves out pieces, half of all first and single ones last, as long as what
 /// is left still fails. No single one can be left out of the answer.
-fn fewer<T: Clone>(all: &[T], fails: impl Fn(&[T]) -> bool) -> Vec<T> {
+pub(crate) fn fewer<T: Clone>(all: &[T], mut fails: impl FnMut(&[T]) -> bool) -> Vec<T> {
     let mut kept = all.to_vec();
     let mut size = kept.len().div_ceil(2).max(1);
     loop {

@@ -1,7 +1,7 @@
 //! The two sides of the comparison.
 
 use model::tape::{encode, MARK};
-use model::{valid, Done, Edition, Ended, Machine};
+use model::{valid, Done, Edition, Ended, Fed, Machine};
 use naszeptan::raw;
 
 /// The side under test: the calls of the header. The archive is one; the
@@ -32,6 +32,39 @@ pub trait Side: Sync {
             count: ended.count,
             index: ended.index,
         }
+    }
+
+    /// A session on these bits of a machine.
+    fn open(&self, m: &raw::Machine, len: usize) -> raw::Session {
+        raw::open(*m, len)
+    }
+
+    /// A piece of a tape: the answer, and how many records it finished.
+    fn feed(
+        &self,
+        s: &mut raw::Session,
+        memory: &mut [u64],
+        piece: &[u8],
+        answers: &mut [u8],
+    ) -> Fed {
+        let fed = raw::feed(*s, memory, piece, answers);
+        *s = fed.session;
+        Fed {
+            answer: fed.answer,
+            finished: fed.finished,
+        }
+    }
+
+    /// The end of a session, and its machine.
+    fn close(&self, s: &raw::Session, len: usize) -> (Ended, raw::Machine) {
+        let ended = raw::close(*s, len);
+        let machine = ended.machine;
+        let ended = Ended {
+            answer: ended.answer,
+            count: ended.count,
+            index: ended.index,
+        };
+        (ended, machine)
     }
 
     /// One record.

@@ -1,9 +1,11 @@
 //! Runs of 100,000 records on both sides. In one such run each log is filled,
 //! committed, failed and filled again thousands of times, so that what the
 //! proved run's rows keep behind a log's count is rubbish by then. It must not
-//! show: not at the end, and not where the run is cut into several.
+//! show: not at the end, and not where the run is cut into several, or into the
+//! pieces of a session.
 
 use compare::pair::Pair;
+use compare::sessions::case::{Case, Piece};
 use compare::sides::{event, record, Archive};
 use compare::start::{Kind, Start};
 use model::gen::{self, Rng};
@@ -70,4 +72,23 @@ fn a_long_run_in_parts_agrees() {
         let count = part.len() / 16;
         assert_eq!(pair.run(&Archive, part), Ok(all(count)));
     }
+}
+
+/// Pieces that end within records, in which records are done in the thousands.
+#[test]
+fn a_long_session_agrees() {
+    let start = start(Kind::Valid, 5);
+    let tape = tape(&mut Rng::new(5), start);
+    let pieces = tape.chunks(16 * 977 + 5).map(|piece| Piece {
+        bytes: piece.to_vec(),
+        answers: vec![0; 978],
+    });
+    let case = Case {
+        start,
+        count: 0,
+        pieces: pieces.collect(),
+    };
+    let mut finished = 0;
+    let met = case.compared(&Archive, &mut |view| finished += view.finished());
+    assert_eq!((met, finished), (Ok(()), RECORDS));
 }

@@ -9,7 +9,7 @@ pub const RECORDED: u8 = 21;
 
 /// Memory length or thread count.
 pub const SHAPE: u8 = 1;
-/// Machine not valid.
+/// Machine not valid, or no session.
 pub const INVALID: u8 = 2;
 /// No such thread.
 pub const NO_THREAD: u8 = 3;

@@ -10,6 +10,7 @@
 //! - [`edition_two`]: the same for records of edition two.
 //! - [`edition`]: both editions, and tapes of one converted into the other.
 //! - [`run`](mod@run): running a tape, and the program.
+//! - [`session`]: running a tape that comes in pieces.
 //! - [`gen`]: random machines, events and tapes for tests.
 
 #![forbid(unsafe_code)]
@@ -21,6 +22,7 @@ pub mod event;
 pub mod gen;
 pub mod machine;
 pub mod run;
+pub mod session;
 pub mod step;
 pub mod tape;
 
@@ -28,6 +30,7 @@ pub use edition::Edition;
 pub use event::Event;
 pub use machine::{valid, Entry, LineSet, Machine, Registers, State, Thread};
 pub use run::{program, run, run_with_answers, Ended};
+pub use session::{Fed, Session};
 pub use step::{step, step_trusted, step_with_failed, Done};
 pub use tape::{read, write};
 

@@ -22,8 +22,8 @@ pub struct Ended {
 }
 
 impl Ended {
-    /// The tape was refused as it stands: nothing was run.
-    const fn refused(answer: u8, index: usize) -> Ended {
+    /// It was refused as it stands: nothing was run.
+    pub(crate) const fn refused(answer: u8, index: usize) -> Ended {
         Ended {
             answer,
             count: 0,
@@ -32,7 +32,7 @@ impl Ended {
     }
 
     /// The run went so far and ended there.
-    const fn after(answer: u8, count: usize) -> Ended {
+    pub(crate) const fn after(answer: u8, count: usize) -> Ended {
         Ended {
             answer,
             count,

@@ -7,7 +7,8 @@ use std::fmt;
 ///
 /// The cases 0, 20 and 21 say that the event was done, all others that it was
 /// refused and has changed nothing. In a run, 6 to 9 refuse the whole tape; an
-/// event that is refused stops the run, and the records before it stay done.
+/// event that is refused stops the run, and the records before it stay done. In
+/// a session the records before a bad one stay done, too.
 ///
 /// ```
 /// use naszeptan::Answer;
@@ -26,7 +27,7 @@ pub enum Answer {
     Done = 0,
     /// 1: memory length or thread count.
     Size = 1,
-    /// 2: not a valid machine.
+    /// 2: not a valid machine, or no session.
     NoMachine = 2,
     /// 3: the event's thread is not below the count; from the writer of
     /// edition two, it is above 3.

@@ -4,8 +4,8 @@ use std::fmt;
 
 use crate::Answer;
 
-/// How a run ended, and which record its answer is about (docs/RULES.md, R1 to
-/// R3).
+/// How a run or a session ended, and which record its answer is about
+/// (docs/RULES.md, R1 to R3 and Q8).
 ///
 /// Displayed, it is the record with the number and words of its answer, or the
 /// count of records done where the tape ended.
@@ -42,13 +42,14 @@ pub struct Ended {
     /// The record that the answer is about. Of a tape that was not run it is
     /// the first bad one, with [`Answer::TapeLength`] the number of whole
     /// records, and 0 where the machine or its memory was refused. Of a tape
-    /// that was run it is `count`.
+    /// that was run, and of a session, it is `count`.
     pub index: usize,
 }
 
 impl Ended {
-    /// The first record that is none, and why. Nothing of its tape was run.
-    /// With [`Answer::TapeLength`] it is the piece behind the whole records.
+    /// The first record that is none, and why. Of a run's tape nothing was done
+    /// then; in a session the records before it were. With
+    /// [`Answer::TapeLength`] it is the piece behind the whole records.
     ///
     /// None where the tape was run, to its end or up to an event that was
     /// refused, and where the machine or its memory was refused.

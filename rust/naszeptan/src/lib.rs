@@ -66,6 +66,7 @@
 //!   and [`run`].
 //! - [`Ended`], [`Ended::bad_record`]: how a run ended, and the first record
 //!   that is none. A tape that has one is not run.
+//! - [`Session`], [`Answers`]: a tape that comes in pieces, from any reader.
 //! - [`Machine::step_with_failed`], [`Done`], [`ThreadSet`]: which threads failed
 //!   in an event, others than its own too.
 //! - [`Edition`], [`Tape::convert`], [`Event::read_in`], [`Event::write_in`]:
@@ -87,6 +88,7 @@ mod ended;
 mod event;
 mod kind;
 mod machine;
+mod session;
 mod show;
 #[allow(unsafe_code)]
 mod sys;
@@ -103,8 +105,11 @@ pub use kind::{Kind, Operand, KINDS};
 pub use machine::{Control, Done, Machine, State, Thread};
 #[doc(inline)]
 pub use raw::{version, Entry, Lines as LineSet, Registers, Transaction};
-pub use raw::{FIRST_BYTE, GPRS, LEVELS, LINE, MEMORY, PLACES, RECORD_SIZE, THREADS, VERSION};
+pub use raw::{
+    FIRST_BYTE, GPRS, HELD, LEVELS, LINE, MEMORY, PLACES, RECORD_SIZE, THREADS, VERSION,
+};
 pub use raw::{SPR_TEXASR, SPR_TEXASRU, SPR_TFHAR, SPR_TFIAR};
+pub use session::{Answers, Session, PIECE};
 pub use tape::{Records, Tape};
 pub use texasr::{Cause, Failure, Texasr};
 pub use threads::ThreadSet;

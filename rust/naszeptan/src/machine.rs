@@ -220,7 +220,7 @@ impl Machine {
     }
 
     /// The machine that the archive gave back after doing something.
-    fn promised(from: &raw::Machine) -> Machine {
+    pub(crate) fn promised(from: &raw::Machine) -> Machine {
         Machine::try_from(from).expect("proved: an event that is done leaves a valid machine")
     }
 }

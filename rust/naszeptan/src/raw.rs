@@ -44,6 +44,8 @@ pub const LEVELS: u16 = 4095;
 pub const RECORD_SIZE: usize = 16;
 /// The first byte of each record.
 pub const FIRST_BYTE: u8 = 0xE3;
+/// The most bytes of an unfinished record, which a session holds.
+pub const HELD: usize = 15;
 
 /// TFHAR's number for mtspr and mfspr.
 pub const SPR_TFHAR: u8 = 128;
@@ -57,7 +59,7 @@ pub const SPR_TEXASRU: u8 = 131;
 /// The version of the rules that this crate was written for: the model's
 /// version in the upper 16 bits, the change requests that have landed in the
 /// lower. [`version`] gives the archive's.
-pub const VERSION: u32 = 0x0004_0006;
+pub const VERSION: u32 = 0x0004_0007;
 
 /// The registers that a checkpoint keeps.
 #[repr(C)]
@@ -227,7 +229,7 @@ pub struct Ended {
     pub count: usize,
     /// The record that the answer is about: the first bad one for 7, 8 and 9,
     /// the number of whole records for 6, and 0 for 1 and 2. Nothing was run
-    /// then. Else it is `count`.
+    /// then. Else, and of a session that was not refused, it is `count`.
     pub index: usize,
     /// The machine after exactly the records done.
     pub machine: Machine,
@@ -253,6 +255,36 @@ pub struct Converted {
     /// many whole records there are; with 10, 0. With any other, the index of
     /// the record that was refused.
     pub index: usize,
+}
+
+/// A tape in pieces, as the caller keeps it between them (docs/RULES.md, Q1 and
+/// Q2). [`open`] makes one, [`feed`] gives the next.
+#[repr(C)]
+#[derive(Clone, Copy, Debug, Default, PartialEq, Eq, Hash)]
+pub struct Session {
+    /// The machine after exactly the records done.
+    pub machine: Machine,
+    /// How many records were done, modulo 2^64.
+    pub count: u64,
+    /// How many bytes of an unfinished record are held, 0 to 15.
+    pub held: usize,
+    /// 0 while the session goes on, else the number that stopped it.
+    pub answer: u8,
+    /// The held bytes, then zeros.
+    pub bytes: [u8; HELD],
+}
+
+/// What feeding a piece gives.
+#[repr(C)]
+#[derive(Clone, Copy, Debug, PartialEq, Eq)]
+pub struct Fed {
+    /// The session's answer, or 1 or 2 where what was handed in is no session.
+    pub answer: u8,
+    /// How many records the piece finished, the one that stopped it among them.
+    pub finished: usize,
+    /// The next session; the one handed in where that was refused or had
+    /// stopped.
+    pub session: Session,
 }
 
 /// The version of the rules that the archive keeps; compare it with
@@ -285,6 +317,52 @@ pub fn step(machine: Machine, memory: &mut [u64], event: Event) -> Done {
 /// refused or the tape ends.
 pub fn run(machine: Machine, memory: &mut [u64], tape: &[u8]) -> Ended {
     sys::run(machine, memory, tape)
+}
+
+/// A session on this machine over a memory of `len` doublewords: no byte held,
+/// the count 0. Refused by 1 and 2: then its answer is that number, and it is
+/// no session.
+pub fn open(machine: Machine, len: usize) -> Session {
+    sys::open(machine, len)
+}
+
+/// The next piece, cut at any byte. Each record that it finishes is read and
+/// done before the next is looked at; its answer goes to the buffer, the first
+/// one's to place 0, as far as there are places. What remains of it is held.
+/// The first record that is none, and the first event that is refused, stops
+/// the session, and what was done before stays.
+///
+/// Refused by 1 and 2. Then nothing changes, as nothing does where the session
+/// has stopped before.
+///
+/// ```
+/// use naszeptan::raw;
+///
+/// let (mut memory, mut answers) = ([0; 16], [9; 4]);
+/// let mut tape = [0; 17];
+/// tape[..2].copy_from_slice(&[0xE3, 0x0F]); // and 14 zeros: a disallowed instruction
+/// let session = raw::open(raw::fresh(), memory.len());
+/// let fed = raw::feed(session, &mut memory, &tape, &mut answers);
+/// assert_eq!((fed.answer, fed.finished, answers), (0, 1, [0, 9, 9, 9]));
+/// assert_eq!((fed.session.count, fed.session.held), (1, 1));
+///
+/// // A byte that is held is not looked at. At the close it is one too many.
+/// assert_eq!(raw::close(fed.session, memory.len()).answer, 6);
+///
+/// // Bits that are no session.
+/// let wrong = raw::Session { held: 16, ..fed.session };
+/// let refused = raw::feed(wrong, &mut memory, &tape, &mut answers);
+/// assert_eq!((refused.answer, refused.finished, refused.session), (2, 0, wrong));
+/// ```
+pub fn feed(session: Session, memory: &mut [u64], piece: &[u8], answers: &mut [u8]) -> Fed {
+    sys::feed(session, memory, piece, answers)
+}
+
+/// How the session ends where no piece follows: its answer if it has stopped,
+/// else 6 if bytes are held, else 0; the count, as `index` too; and the machine.
+/// Refused by 1 and 2, with count and index 0.
+pub fn close(session: Session, len: usize) -> Ended {
+    sys::close(session, len)
 }
 
 /// One record of 16 bytes as an event. Refused by 6, 7, 8, 9 in this order.

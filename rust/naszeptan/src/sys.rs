@@ -4,7 +4,7 @@
 //! names elements which the call may use alone. A Rust slice is just that, and
 //! any other bits may be handed in; so each function here is safe.
 
-use crate::raw::{Converted, Done, Ended, Event, Machine, Record};
+use crate::raw::{Converted, Done, Ended, Event, Fed, Machine, Record, Session};
 
 extern "C" {
     fn naszeptan_version() -> u32;
@@ -18,6 +18,17 @@ extern "C" {
         tape: *const u8,
         bytes: usize,
     ) -> Ended;
+    fn naszeptan_open(machine: Machine, len: usize) -> Session;
+    fn naszeptan_feed(
+        session: Session,
+        memory: *mut u64,
+        len: usize,
+        piece: *const u8,
+        bytes: usize,
+        answers: *mut u8,
+        room: usize,
+    ) -> Fed;
+    fn naszeptan_close(session: Session, len: usize) -> Ended;
     fn naszeptan_read(record: *const u8, bytes: usize) -> Record;
     fn naszeptan_write(event: Event, buffer: *mut u8, bytes: usize) -> u8;
     fn naszeptan_read_two(record: *const u8, bytes: usize) -> Record;
@@ -69,6 +80,32 @@ pub(crate) fn run(machine: Machine, memory: &mut [u64], tape: &[u8]) -> Ended {
             tape.len(),
         )
     }
+}
+
+pub(crate) fn open(machine: Machine, len: usize) -> Session {
+    // SAFETY: as for `valid`; every field of the answer is an integer.
+    unsafe { naszeptan_open(machine, len) }
+}
+
+pub(crate) fn feed(session: Session, memory: &mut [u64], piece: &[u8], answers: &mut [u8]) -> Fed {
+    // SAFETY: as for `run`; the session goes by value and may be any bits, and
+    // the answers are a slice of their own, borrowed by the call alone.
+    unsafe {
+        naszeptan_feed(
+            session,
+            memory.as_mut_ptr(),
+            memory.len(),
+            piece.as_ptr(),
+            piece.len(),
+            answers.as_mut_ptr(),
+            answers.len(),
+        )
+    }
+}
+
+pub(crate) fn close(session: Session, len: usize) -> Ended {
+    // SAFETY: takes its session by value, and any bits may be a session's.
+    unsafe { naszeptan_close(session, len) }
 }
 
 pub(crate) fn read(record: &[u8]) -> Record {

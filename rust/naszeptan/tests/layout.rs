@@ -4,8 +4,8 @@
 use std::mem::{align_of, offset_of, size_of};
 
 use naszeptan::raw::{
-    Control, Converted, Done, Ended, Entry, Event, Lines, Machine, Record, Registers, Thread,
-    Transaction,
+    Control, Converted, Done, Ended, Entry, Event, Fed, Lines, Machine, Record, Registers, Session,
+    Thread, Transaction,
 };
 
 /// The size and alignment of a type, and where its fields start.
@@ -79,4 +79,16 @@ fn answers() {
     );
     assert_eq!(layout!(Record, answer, event), (20, 4, vec![0, 4]));
     assert_eq!(layout!(Converted, answer, index), (16, 8, vec![0, 8]));
+}
+
+#[test]
+fn session() {
+    assert_eq!(
+        layout!(Session, machine, count, held, answer, bytes),
+        (6728, 8, vec![0, 6696, 6704, 6712, 6713])
+    );
+    assert_eq!(
+        layout!(Fed, answer, finished, session),
+        (6744, 8, vec![0, 8, 16])
+    );
 }

@@ -10,12 +10,11 @@ use model::Edition;
 use crate::batch::Found;
 use crate::calls::same;
 use crate::counts::Counts;
+use crate::lent::Lent;
 use crate::sides::{self, Side};
 use cells::{Call, View};
 
-/// Bytes kept on either side of a lent buffer, which no call may touch.
-const BESIDE: usize = 8;
-/// What stands there.
+/// What stands beside a lent buffer.
 const KEPT: u8 = 0x5A;
 
 /// The calls of one batch.
@@ -77,10 +76,10 @@ fn write<S: Side>(side: &S, rng: &mut Rng, counts: &mut Counts) -> Result<(), Fo
     let e = sides::fields(record);
     let any = rng.below(40);
     let room = rng.pick([16, 16, 17, 15, 0, 32, any]);
-    let mut ours = Lent::new(rng, room);
+    let mut ours = buffer(rng, room);
     let mut theirs = ours.clone();
-    let right = sides::model_write_two(e, ours.buffer());
-    let given = side.write_two(e, theirs.buffer());
+    let right = sides::model_write_two(e, ours.lent());
+    let given = side.write_two(e, theirs.lent());
     same(
         || format!("write of {e:?} into {room} bytes, edition two"),
         (right, &ours),
@@ -143,10 +142,10 @@ fn convert<S: Side>(
     (tape, room): (&[u8], usize),
     counts: &mut Counts,
 ) -> Result<Option<Vec<u8>>, Found> {
-    let mut ours = Lent::new(rng, room);
+    let mut ours = buffer(rng, room);
     let mut theirs = ours.clone();
-    let right = edition.convert(tape, ours.buffer());
-    let given = side.convert(edition, tape, theirs.buffer());
+    let right = edition.convert(tape, ours.lent());
+    let given = side.convert(edition, tape, theirs.lent());
     same(
         || format!("converting {tape:02X?} from edition {edition:?} into {room} bytes"),
         (right, &ours),
@@ -160,24 +159,11 @@ fn convert<S: Side>(
         answer,
         index,
     });
-    Ok((answer == 0).then(|| ours.buffer()[..tape.len()].to_vec()))
+    Ok((answer == 0).then(|| ours.lent()[..tape.len()].to_vec()))
 }
 
-/// A buffer to lend, with bytes beside it that must stay.
-#[derive(Clone, PartialEq, Debug)]
-struct Lent {
-    bytes: Vec<u8>,
-}
-
-impl Lent {
-    fn new(rng: &mut Rng, room: usize) -> Lent {
-        let mut bytes = vec![KEPT; room + 2 * BESIDE];
-        bytes[BESIDE..BESIDE + room].fill_with(|| rng.byte());
-        Lent { bytes }
-    }
-
-    fn buffer(&mut self) -> &mut [u8] {
-        let end = self.bytes.len() - BESIDE;
-        &mut self.bytes[BESIDE..end]
-    }
+/// A buffer of random bytes to lend.
+fn buffer(rng: &mut Rng, room: usize) -> Lent<u8> {
+    let bytes: Vec<u8> = (0..room).map(|_| rng.byte()).collect();
+    Lent::new(&bytes, KEPT)
 }

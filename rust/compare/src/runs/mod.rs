@@ -48,38 +48,51 @@ fn records(rng: &mut Rng, pair: &Pair, most: usize) -> Vec<Bytes> {
     whole_records(&tape)
 }
 
-/// One run: of tapes that go on, that are stopped at the end, that have a
-/// record which may be bad, that are ragged, and empty ones.
+/// One run of any tape.
 fn run<S: Side>(side: &S, rng: &mut Rng, counts: &mut Counts) -> Result<(), Found> {
     let start = Start::random(rng);
     let pair = Pair::new(start);
+    let (records, tail) = any_tape(rng, &pair);
+    compared(side, pair, (start, records, tail), counts)
+}
+
+/// One run of a short tape that is not to be run.
+fn bad_run<S: Side>(side: &S, rng: &mut Rng, counts: &mut Counts) -> Result<(), Found> {
+    let start = Start::random(rng);
+    let pair = Pair::new(start);
+    let (records, tail) = bad_tape(rng, &pair);
+    compared(side, pair, (start, records, tail), counts)
+}
+
+/// A tape, its records and a ragged end, for this machine: one that goes on,
+/// that is stopped at its end, that has a record which may be bad, that is
+/// ragged, or an empty one.
+pub(crate) fn any_tape(rng: &mut Rng, pair: &Pair) -> (Vec<Bytes>, Vec<u8>) {
     let most = rng.pick([0, 0, 1, 2, 20, 60, 120, 500]);
-    let mut records = records(rng, &pair, most);
+    let mut records = records(rng, pair, most);
     let mut tail = Vec::new();
     match rng.below(6) {
         0..=2 => {
             let wanted = rng.pick([3, 4, 4, 5, 5, 5, 5, 7, 8, 9, 11, 11, 11, 12, 13, 13]);
-            records.push(stopper(rng, &pair, &records, wanted));
+            records.push(stopper(rng, pair, &records, wanted));
         }
         3 => spoil_records(rng, &mut records),
         4 => tail = piece(rng),
         _ => {}
     }
-    compared(side, pair, (start, records, tail), counts)
+    (records, tail)
 }
 
-/// One run of a short tape that is not to be run: with a bad record or two, or
-/// ragged; some behind an event that would be refused.
-fn bad_run<S: Side>(side: &S, rng: &mut Rng, counts: &mut Counts) -> Result<(), Found> {
-    let start = Start::random(rng);
-    let pair = Pair::new(start);
+/// A short tape with a bad record or two, or ragged; some of them behind an
+/// event that would be refused.
+pub(crate) fn bad_tape(rng: &mut Rng, pair: &Pair) -> (Vec<Bytes>, Vec<u8>) {
     let most = rng.pick([0, 1, 2, 3, 8]);
-    let mut records = records(rng, &pair, most);
+    let mut records = records(rng, pair, most);
     if rng.one_in(3) {
         records.truncate(rng.below(2));
     } else {
         let wanted = rng.pick([3, 3, 4, 5, 11, 12, 13, 13, 13]);
-        records.push(stopper(rng, &pair, &records, wanted));
+        records.push(stopper(rng, pair, &records, wanted));
     }
     let mut tail = Vec::new();
     for _ in 0..rng.pick([1, 1, 2]) {
@@ -89,7 +102,7 @@ fn bad_run<S: Side>(side: &S, rng: &mut Rng, counts: &mut Counts) -> Result<(), 
         }
         records.extend(rng.flag().then(|| good_record(rng, pair.machine())));
     }
-    compared(side, pair, (start, records, tail), counts)
+    (records, tail)
 }
 
 /// Runs the tape on both sides and notes what was met.

@@ -9,6 +9,7 @@ mod program;
 mod properties;
 mod refusals;
 mod runs;
+mod sessions;
 mod slips;
 mod tapes;
 mod values;
