@@ -1,34 +1,25 @@
--- `power_special::put_spr` meets its contract.
-use borrow.Author.Tests.{eq-eqb, ne-eqb}
-use Rattle.power_special.specs.Special.{put-spr}
 use borrow.Author.Needs.{needs}
 use Rattle.power_special.proofs.put_spr.Statement.{statement}
 use Rattle.power_special.proofs.put_spr.Tie as tie
+use Rattle.power_special.proofs.put_spr.Reads as reads
+use Rattle.power_special.proofs.put_spr.Lts as lts
+use Rattle.power_special.proofs.put_failure.Reads as put-failure-reads
 
-sub-c : tie.Need-sub-c
-sub-c c = search needs
-
+-- src/lib.rt:46:9
 returns : tie.Need-returns
-unfolding put-spr
-returns c = simp (eq-eqb _ _ (c .if1 .taken))
+returns c = ?
 
+-- src/lib.rt:51:9
 returns-2 : tie.Need-returns-2
-unfolding put-spr
-returns-2 c = simp (eq-eqb _ _ (c .if2 .taken), ne-eqb _ _ (c .before .if1 .left))
+returns-2 c = ?
 
+-- src/lib.rt:53:9
+put-failure-requires : tie.Need-put-failure-requires
+put-failure-requires c κs = search needs
+
+-- src/lib.rt:38:1
 returns-3 : tie.Need-returns-3
-unfolding put-spr
-returns-3 c = simp (eq-eqb _ _ (c .if3 .taken), ne-eqb _ _ (c .before .if2 .left), ne-eqb _ _ (c .before .before .if1 .left))
-
-mul-c : tie.Need-mul-c
-mul-c c = search needs
-
-add-c : tie.Need-add-c
-add-c c = search needs
-
-returns-4 : tie.Need-returns-4
-unfolding put-spr
-returns-4 c = simp (ne-eqb _ _ (c .before .if3 .left), ne-eqb _ _ (c .before .before .if2 .left), ne-eqb _ _ (c .before .before .before .if1 .left))
+returns-3 c = ?
 
 pub put-spr-spec : {M : Type 1} → statement M
-put-spr-spec = tie.close (tie.spec sub-c returns returns-2 returns-3 mul-c add-c returns-4)
+put-spr-spec = tie.close (tie.spec returns returns-2 put-failure-requires returns-3)
