@@ -30,13 +30,13 @@ taking Bad t pr at = did answer.done t
 taking Fails t pr at = fails t Disallowed
 taking (To s tm) t pr at = reached s (goes t s pr tm at)
 
-abbrev pub returns : Thread → Asked → ℕ → Did
-returns t a at = taking (turned (t .control .msr) a) t (a .pr) at
+abbrev pub returning : Thread → Asked → ℕ → Did
+returning t a at = taking (turned (t .control .msr) a) t (a .pr) at
 
 -- 18. rfid asks by SRR1, and goes on at SRR0 without its two low bits
 unfoldable pub rfid : Thread → Did
-rfid t = returns t (by-srr1 (t .control .saved .srr1)) (t .control .saved .srr0 - t .control .saved .srr0 % 4)
+rfid t = returning t (by-srr1 (t .control .saved .srr1)) (t .control .saved .srr0 - t .control .saved .srr0 % 4)
 
 -- 19. mtmsrd (TS in two bits, TM, PR) goes on behind itself
 unfoldable pub mtmsrd : Thread → (t s tm pr : Bool) → Did
-mtmsrd u t s tm pr = returns u (asked t s tm pr) (next (u .control .nia))
+mtmsrd u t s tm pr = returning u (asked t s tm pr) (next (u .control .nia))

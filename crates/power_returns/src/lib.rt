@@ -4,7 +4,7 @@ ghost use mathlib.Core.List.{List};
 ghost use Prim.Native.Nat.{ℕ};
 ghost use Rattle.rows.specs.Rows.{thread-with, standing};
 ghost use Rattle.power_common.specs.Common.{did};
-ghost use Rattle.power_returns.specs.Returns.{reached, returns, rfid, mtmsrd};
+ghost use Rattle.power_returns.specs.Returns.{reached, returning, rfid, mtmsrd};
 ghost use Rattle.power_returns.specs.Inner.{gone};
 use base::CR_FIELDS;
 use base::GPRS;
@@ -73,7 +73,7 @@ fn returned(
     a: Asked,
     at: u64,
 ) -> u8
-    ensures { λ n. ⌜ ((ix vl : List ℕ) → did n (standing (now (gpr .exit)) (now (cr .exit)) (now (kgpr .entry)) (now (kcr .entry)) (now (words .exit)) ix vl) ≡ returns (standing (now (gpr .entry)) (now (cr .entry)) (now (kgpr .entry)) (now (kcr .entry)) (now (words .entry)) ix vl) a at) ⌝ }
+    ensures { λ n. ⌜ ((ix vl : List ℕ) → did n (standing (now (gpr .exit)) (now (cr .exit)) (now (kgpr .entry)) (now (kcr .entry)) (now (words .exit)) ix vl) ≡ returning (standing (now (gpr .entry)) (now (cr .entry)) (now (kgpr .entry)) (now (kcr .entry)) (now (words .entry)) ix vl) a at) ⌝ }
 {
     let h = rows::read_head(&*words);
     let k = h.control;

@@ -1,37 +1,36 @@
+-- `power_special::get_spr` meets its contract.
+use borrow.Author.Tests.{eq-eqb, ne-eqb}
+use Rattle.power_special.specs.Special.{get-spr}
 use borrow.Author.Needs.{needs}
 use Rattle.power_special.proofs.get_spr.Statement.{statement}
 use Rattle.power_special.proofs.get_spr.Tie as tie
-use Rattle.power_special.proofs.get_spr.Reads as reads
-use Rattle.power_special.proofs.get_spr.Lts as lts
-use Rattle.power_special.proofs.get_tfiar.Reads as get-tfiar-reads
 
--- src/lib.rt:91:9
 returns : tie.Need-returns
-returns c = ?
+unfolding get-spr
+returns c = simp (eq-eqb _ _ (c .if1 .taken))
 
--- src/lib.rt:94:9
 returns-2 : tie.Need-returns-2
-returns-2 c = ?
+unfolding get-spr
+returns-2 c = simp (eq-eqb _ _ (c .if2 .taken), ne-eqb _ _ (c .before .if1 .left))
 
--- src/lib.rt:97:9
 returns-3 : tie.Need-returns-3
-returns-3 c = ?
+unfolding get-spr
+returns-3 c = simp (eq-eqb _ _ (c .if3 .taken), ne-eqb _ _ (c .before .if2 .left), ne-eqb _ _ (c .before .before .if1 .left))
 
--- src/lib.rt:100:9
 get-tfiar-requires : tie.Need-get-tfiar-requires
 get-tfiar-requires c κs = search needs
 
--- src/lib.rt:100:9
 returns-4 : tie.Need-returns-4
-returns-4 c = ?
+unfolding get-spr
+returns-4 c = simp (c .get-tfiar .ensures, eq-eqb _ _ (c .before .if4 .taken), ne-eqb _ _ (c .before .before .if3 .left), ne-eqb _ _ (c .before .before .before .if2 .left), ne-eqb _ _ (c .before .before .before .before .if1 .left))
 
--- src/lib.rt:103:9
 returns-5 : tie.Need-returns-5
-returns-5 c = ?
+unfolding get-spr
+returns-5 c = simp (eq-eqb _ _ (c .if5 .taken), ne-eqb _ _ (c .before .if4 .left), ne-eqb _ _ (c .before .before .if3 .left), ne-eqb _ _ (c .before .before .before .if2 .left), ne-eqb _ _ (c .before .before .before .before .if1 .left))
 
--- src/lib.rt:85:1
 returns-6 : tie.Need-returns-6
-returns-6 c = ?
+unfolding get-spr
+returns-6 c = simp (ne-eqb _ _ (c .before .if5 .left), ne-eqb _ _ (c .before .before .if4 .left), ne-eqb _ _ (c .before .before .before .if3 .left), ne-eqb _ _ (c .before .before .before .before .if2 .left), ne-eqb _ _ (c .before .before .before .before .before .if1 .left))
 
 pub get-spr-spec : {M : Type 1} → statement M
 get-spr-spec =

@@ -1,25 +1,24 @@
+-- `power_special::put_spr` meets its contract.
+use borrow.Author.Tests.{eq-eqb, ne-eqb}
+use Rattle.power_special.specs.Special.{put-spr}
 use borrow.Author.Needs.{needs}
 use Rattle.power_special.proofs.put_spr.Statement.{statement}
 use Rattle.power_special.proofs.put_spr.Tie as tie
-use Rattle.power_special.proofs.put_spr.Reads as reads
-use Rattle.power_special.proofs.put_spr.Lts as lts
-use Rattle.power_special.proofs.put_failure.Reads as put-failure-reads
 
--- src/lib.rt:46:9
 returns : tie.Need-returns
-returns c = ?
+unfolding put-spr
+returns c = simp (eq-eqb _ _ (c .if1 .taken))
 
--- src/lib.rt:51:9
 returns-2 : tie.Need-returns-2
-returns-2 c = ?
+unfolding put-spr
+returns-2 c = simp (eq-eqb _ _ (c .if2 .taken), ne-eqb _ _ (c .before .if1 .left))
 
--- src/lib.rt:53:9
 put-failure-requires : tie.Need-put-failure-requires
 put-failure-requires c κs = search needs
 
--- src/lib.rt:38:1
 returns-3 : tie.Need-returns-3
-returns-3 c = ?
+unfolding put-spr
+returns-3 c = simp (c .put-failure .ensures, ne-eqb _ _ (c .before .if2 .left), ne-eqb _ _ (c .before .before .if1 .left))
 
 pub put-spr-spec : {M : Type 1} → statement M
 put-spr-spec = tie.close (tie.spec returns returns-2 put-failure-requires returns-3)
