@@ -29,7 +29,7 @@ fn kind_number(f: Fields, zero: bool) -> u8
 {
     let kind = f.kind;
     match kind {
-        1..=17 => clear_number(f, zero, event::row(kind)),
+        1..=19 => clear_number(f, zero, event::row(kind)),
         _ => answer::NO_KIND,
     }
 }
