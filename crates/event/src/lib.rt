@@ -33,25 +33,69 @@ const SRR: When = When::Srr;
 // Operands take any value of their width: the step refuses what is out of range. The thread is named beside the event. mtmsrd's T and S are
 // TS in two bits, the higher first.
 pub enum Event {
-    Tbegin { r: bool },
-    Tend { a: bool },
-    Tabort { ra: u8 },
-    Tabortwc { to: u8, ra: u8, rb: u8 },
-    Tabortdc { to: u8, ra: u8, rb: u8 },
-    Tsr { l: bool },
-    Tcheck { bf: u8 },
-    Treclaim { ra: u8 },
+    Tbegin {
+        r: bool,
+    },
+    Tend {
+        a: bool,
+    },
+    Tabort {
+        ra: u8,
+    },
+    Tabortwc {
+        to: u8,
+        ra: u8,
+        rb: u8,
+    },
+    Tabortdc {
+        to: u8,
+        ra: u8,
+        rb: u8,
+    },
+    Tsr {
+        l: bool,
+    },
+    Tcheck {
+        bf: u8,
+    },
+    Treclaim {
+        ra: u8,
+    },
     Trechkpt,
-    Mtspr { spr: u8, ra: u8 },
-    Mfspr { rt: u8, spr: u8 },
-    Ld { rt: u8, index: u32 },
-    Std { ra: u8, index: u32 },
-    Addi { rt: u8, ra: u8, si: u16 },
+    Mtspr {
+        spr: u8,
+        ra: u8,
+    },
+    Mfspr {
+        rt: u8,
+        spr: u8,
+    },
+    Ld {
+        rt: u8,
+        index: u32,
+    },
+    Std {
+        ra: u8,
+        index: u32,
+    },
+    Addi {
+        rt: u8,
+        ra: u8,
+        si: u16,
+    },
     Disallowed,
     Interrupt,
-    Host { pr: bool, tm: bool },
+    Host {
+        pr: bool,
+        tm: bool,
+    },
     Rfid,
-    Mtmsrd { t: bool, s: bool, tm: bool, pr: bool },
+    Mtmsrd {
+        t: bool,
+        s: bool,
+        tm: bool,
+        pr: bool,
+    },
 }
 
 // Kinds that a refusal names. specs/Event.antt has the same numbers for the definitions.

@@ -109,7 +109,15 @@ pub fn rfid(
     let srr0 = words[18];
     let srr1 = words[19];
     let a = turns::by_srr1(srr1);
-    returned(&mut *gpr, &mut *cr, kgpr, kcr, &mut *words, a, srr0 - srr0 % 4)
+    returned(
+        &mut *gpr,
+        &mut *cr,
+        kgpr,
+        kcr,
+        &mut *words,
+        a,
+        srr0 - srr0 % 4,
+    )
 }
 
 // mtmsrd (TS in two bits, TM, PR)

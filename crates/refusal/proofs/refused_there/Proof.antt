@@ -73,7 +73,6 @@ returns-5 c =
       ← t .tm-instruction .ensures,
       sym (d .turned-down .ensures) ∙ c .if5 .taken,
       sym (d .before .before .bad-thing .ensures) ∙ d .before .if4 .left,
-      
       sym (f .forbidden .ensures) ∙ b .if3 .left,
       sym (f .before .off .ensures) ∙ b .before .if2 .left,
       sym (h .before .host-in-t .ensures) ∙ h .if1 .left,
@@ -92,7 +91,6 @@ returns-6 c =
       ← t .tm-instruction .ensures,
       sym (d .turned-down .ensures) ∙ c .if5 .left,
       sym (d .before .before .bad-thing .ensures) ∙ d .before .if4 .left,
-      
       sym (f .forbidden .ensures) ∙ b .if3 .left,
       sym (f .before .off .ensures) ∙ b .before .if2 .left,
       sym (h .before .host-in-t .ensures) ∙ h .if1 .left,
