@@ -1,4 +1,4 @@
-//! The bench values of docs/RULES.md, K1 to K10, K14 and K15, through the archive.
+//! The bench values of docs/RULES.md, K1 to K10, through the archive.
 
 use naszeptan::{Answer, Event, Machine, State, LEVELS, LINE, MEMORY};
 
@@ -149,34 +149,4 @@ fn k10_word_and_doubleword() {
     desk.step(0, BEGIN, Answer::Done);
     desk.step(0, Event::Tabortdc { to, ra, rb }, Answer::Done);
     desk.step(0, Event::Tabortwc { to, ra, rb }, Answer::Handled);
-}
-
-#[test]
-fn k14_interrupt_and_back() {
-    let mut desk = Desk::new();
-    desk.step(0, BEGIN, Answer::Done);
-    desk.step(0, Event::Interrupt, Answer::Done);
-    let control = &desk.machine.threads[0].control;
-    assert_eq!((control.srr0, control.srr1), (0x1004, 0x5_0000_4000));
-    assert_eq!((control.state, control.nia), (State::S, 0x500));
-    assert!(!control.pr && !control.tm);
-    desk.step(0, Event::Rfid, Answer::Done);
-    let control = &desk.machine.threads[0].control;
-    assert_eq!((control.state, control.nia), (State::T, 0x1004));
-    assert!(control.pr && control.tm);
-}
-
-#[test]
-fn k15_doomed_meanwhile() {
-    let mut desk = Desk::new();
-    desk.step(0, BEGIN, Answer::Done);
-    desk.step(0, Event::Ld { rt: 5, index: 17 }, Answer::Done);
-    desk.step(0, Event::Interrupt, Answer::Done);
-    desk.step(1, Event::Std { ra: 0, index: 16 }, Answer::Done);
-    assert_eq!(desk.texasr(), 0x0008_0000_8800_0001);
-    desk.step(0, Event::Rfid, Answer::Handled);
-    let thread = &desk.machine.threads[0];
-    assert_eq!((thread.control.nia, thread.cr0), (0x1004, 0b1010));
-    assert_eq!(thread.control.state, State::N);
-    assert!(thread.control.pr && thread.control.tm);
 }

@@ -187,11 +187,6 @@ fn elision() {
 }
 
 #[test]
-fn returns() {
-    hold("returns");
-}
-
-#[test]
 fn every_kind() {
     hold("every_kind");
 }
