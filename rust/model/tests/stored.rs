@@ -48,6 +48,8 @@ fn poke_thread(t: &mut Thread, field: u8, i: usize, index: u64, v: u64) {
         12 => t.tfhar = v,
         13 => t.tfiar = v,
         14 => t.texasr = v,
+        21 => t.srr0 = v,
+        22 => t.srr1 = v,
         15 if i < 4 => t.reads.0[i] = v,
         16 if i < 4 => t.writes.0[i] = v,
         17 => t.count = v as usize,
@@ -118,6 +120,8 @@ fn show_thread(out: &mut String, w: usize, t: &Thread) {
         ("tfhar", t.tfhar, 0),
         ("tfiar", t.tfiar, 0),
         ("texasr", t.texasr, 0),
+        ("srr0", t.srr0, 0),
+        ("srr1", t.srr1, 0),
     ] {
         show(out, format!("t{w}.{name}"), v, fresh);
     }
