@@ -104,7 +104,7 @@ pub use machine::{Control, Done, Machine, State, Thread};
 #[doc(inline)]
 pub use raw::{version, Entry, Lines as LineSet, Registers, Transaction};
 pub use raw::{FIRST_BYTE, GPRS, LEVELS, LINE, MEMORY, PLACES, RECORD_SIZE, THREADS, VERSION};
-pub use raw::{SPR_TEXASR, SPR_TEXASRU, SPR_TFHAR, SPR_TFIAR};
+pub use raw::{SPR_SRR0, SPR_SRR1, SPR_TEXASR, SPR_TEXASRU, SPR_TFHAR, SPR_TFIAR};
 pub use tape::{Records, Tape};
 pub use texasr::{Cause, Failure, Texasr};
 pub use threads::ThreadSet;
