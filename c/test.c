@@ -10,21 +10,24 @@
 _Static_assert(sizeof(struct naszeptan_registers) == 264, "registers");
 _Static_assert(sizeof(struct naszeptan_entry) == 16, "entry");
 _Static_assert(sizeof(struct naszeptan_transaction) == 1096, "transaction");
-_Static_assert(sizeof(struct naszeptan_control) == 40, "control");
-_Static_assert(sizeof(struct naszeptan_thread) == 1672, "thread");
-_Static_assert(sizeof(struct naszeptan_machine) == 6696, "machine");
+_Static_assert(sizeof(struct naszeptan_control) == 56, "control");
+_Static_assert(offsetof(struct naszeptan_control, texasr) == 32, "texasr");
+_Static_assert(offsetof(struct naszeptan_control, srr0) == 40, "srr0");
+_Static_assert(offsetof(struct naszeptan_control, srr1) == 48, "srr1");
+_Static_assert(sizeof(struct naszeptan_thread) == 1688, "thread");
+_Static_assert(sizeof(struct naszeptan_machine) == 6760, "machine");
 _Static_assert(sizeof(struct naszeptan_event) == 16, "event");
-_Static_assert(sizeof(struct naszeptan_done) == 6704, "done");
+_Static_assert(sizeof(struct naszeptan_done) == 6768, "done");
 _Static_assert(offsetof(struct naszeptan_done, failed) == 1, "failed");
-_Static_assert(sizeof(struct naszeptan_ended) == 6720, "ended");
+_Static_assert(sizeof(struct naszeptan_ended) == 6784, "ended");
 _Static_assert(offsetof(struct naszeptan_ended, count) == 8, "count");
 _Static_assert(offsetof(struct naszeptan_ended, index) == 16, "index");
-_Static_assert(sizeof(struct naszeptan_session) == 6728, "session");
-_Static_assert(offsetof(struct naszeptan_session, count) == 6696, "count");
-_Static_assert(offsetof(struct naszeptan_session, held) == 6704, "held");
-_Static_assert(offsetof(struct naszeptan_session, answer) == 6712, "answer");
-_Static_assert(offsetof(struct naszeptan_session, bytes) == 6713, "bytes");
-_Static_assert(sizeof(struct naszeptan_fed) == 6744, "fed");
+_Static_assert(sizeof(struct naszeptan_session) == 6792, "session");
+_Static_assert(offsetof(struct naszeptan_session, count) == 6760, "count");
+_Static_assert(offsetof(struct naszeptan_session, held) == 6768, "held");
+_Static_assert(offsetof(struct naszeptan_session, answer) == 6776, "answer");
+_Static_assert(offsetof(struct naszeptan_session, bytes) == 6777, "bytes");
+_Static_assert(sizeof(struct naszeptan_fed) == 6808, "fed");
 _Static_assert(offsetof(struct naszeptan_fed, finished) == 8, "finished");
 _Static_assert(offsetof(struct naszeptan_fed, session) == 16, "session");
 _Static_assert(sizeof(struct naszeptan_record) == 20, "record");
@@ -61,7 +64,7 @@ static int same_machine(const struct naszeptan_machine *a,
         x->cr0 != y->cr0 || j->nia != k->nia || j->pr != k->pr ||
         j->tm != k->tm || j->state != k->state || j->doomed != k->doomed ||
         j->tfhar != k->tfhar || j->tfiar != k->tfiar ||
-        j->texasr != k->texasr ||
+        j->texasr != k->texasr || j->srr0 != k->srr0 || j->srr1 != k->srr1 ||
         memcmp(&p->reads, &q->reads, sizeof p->reads) != 0 ||
         memcmp(&p->writes, &q->writes, sizeof p->writes) != 0 ||
         p->count != q->count)
@@ -142,6 +145,7 @@ static void machines(void) {
   struct naszeptan_machine m = naszeptan_fresh();
   CHECK(naszeptan_version() == NASZEPTAN_VERSION);
   CHECK(m.count == NASZEPTAN_THREADS && m.threads[3].control.pr == 1);
+  CHECK(m.threads[3].control.srr0 == 0 && m.threads[3].control.srr1 == 0);
   CHECK(naszeptan_valid(m, NASZEPTAN_MEMORY) == NASZEPTAN_DONE);
   CHECK(naszeptan_valid(m, NASZEPTAN_LINE) == NASZEPTAN_DONE);
   CHECK(naszeptan_valid(m, 0) == NASZEPTAN_SIZE);
@@ -150,6 +154,14 @@ static void machines(void) {
   m.count = 5;
   CHECK(naszeptan_valid(m, NASZEPTAN_MEMORY) == NASZEPTAN_SIZE);
   m.count = 3; /* the fourth record is not all zero */
+  CHECK(naszeptan_valid(m, NASZEPTAN_MEMORY) == NASZEPTAN_NO_MACHINE);
+  m.threads[3].control.pr = m.threads[3].control.tm = 0;
+  m.threads[0].control.srr0 = m.threads[0].control.srr1 = UINT64_MAX;
+  CHECK(naszeptan_valid(m, NASZEPTAN_MEMORY) == NASZEPTAN_DONE);
+  m.threads[3].control.srr0 = 1;
+  CHECK(naszeptan_valid(m, NASZEPTAN_MEMORY) == NASZEPTAN_NO_MACHINE);
+  m.threads[3].control.srr0 = 0;
+  m.threads[3].control.srr1 = UINT64_C(1) << 63;
   CHECK(naszeptan_valid(m, NASZEPTAN_MEMORY) == NASZEPTAN_NO_MACHINE);
 }
 
@@ -183,7 +195,8 @@ static void refusals(void) {
   struct naszeptan_event none = event(0, 9), unused = event(NASZEPTAN_TEND, 9);
   unused.rb = 1;
   refused(m, NASZEPTAN_MEMORY, none, NASZEPTAN_NO_KIND);
-  refused(m, NASZEPTAN_MEMORY, event(18, 0), NASZEPTAN_NO_KIND);
+  refused(m, NASZEPTAN_MEMORY, event(20, 0), NASZEPTAN_NO_KIND);
+  refused(m, NASZEPTAN_MEMORY, event(NASZEPTAN_RFID, 0), NASZEPTAN_PRIVILEGED);
   refused(m, NASZEPTAN_MEMORY, unused, NASZEPTAN_FIELD);
   refused(m, 0, none, NASZEPTAN_SIZE);
   refused(m, NASZEPTAN_MEMORY, event(NASZEPTAN_TEND, 4), NASZEPTAN_NO_THREAD);
@@ -611,6 +624,111 @@ static void fields(void) {
   CHECK(NASZEPTAN_TEXASR_LEVEL(t) == 0xFED);
 }
 
+/* Thread 0's state, PR, TM and NIA on the desk. */
+static int is_at(uint8_t state, uint8_t pr, uint8_t tm, uint64_t nia) {
+  struct naszeptan_control k = desk.threads[0].control;
+  return k.state == state && k.pr == pr && k.tm == tm && k.nia == nia;
+}
+
+/* docs/RULES.md, K14 and K15: an interrupt in a transaction, and rfid back, the
+ * transaction living or doomed meanwhile. */
+static void interrupted(int doomed) {
+  desk = naszeptan_fresh();
+  desk.threads[0].control.nia = 0x1000;
+  spares(event(NASZEPTAN_TBEGIN, 0));
+  if (doomed)
+    spares(load(0, 4, 17));
+  spares(event(NASZEPTAN_INTERRUPT, 0));
+  uint64_t srr1 = desk.threads[0].control.srr1;
+  CHECK(is_at(NASZEPTAN_S, 0, 0, 0x500));
+  CHECK(desk.threads[0].control.srr0 == (doomed ? 0x1008 : 0x1004));
+  CHECK(srr1 == UINT64_C(0x0000000500004000));
+  CHECK(NASZEPTAN_SRR1_TS(srr1) == NASZEPTAN_TS_T);
+  CHECK(NASZEPTAN_SRR1_TM(srr1) == 1 && NASZEPTAN_SRR1_PR(srr1) == 1);
+  if (doomed) {
+    fails(store(1, 5, 17), NASZEPTAN_DONE, 1);
+    fails(event(NASZEPTAN_RFID, 0), NASZEPTAN_HANDLED, 1);
+    CHECK(is_at(NASZEPTAN_N, 1, 1, 0x1004) && desk.threads[0].cr0 == 10);
+    CHECK(desk.threads[0].control.texasr == UINT64_C(0x0008000088000001));
+    CHECK(desk.threads[0].control.tfiar == 0x500);
+  } else {
+    spares(event(NASZEPTAN_RFID, 0));
+    CHECK(is_at(NASZEPTAN_T, 1, 1, 0x1004) && desk.threads[0].cr0 == 0);
+  }
+}
+
+/* docs/RULES.md, E0.11: what TS and TM become by the state and TM before (N, 0;
+ * N, 1; S, 0; S, 1) and the TS and TM that are asked (N, S, T, no state, each
+ * with TM = 0 and 1); 13 is a Bad Thing. */
+enum { N0 = 0, N1 = 4, S0 = 1, S1 = 5, T1 = 6, BAD = 13 };
+static const uint8_t asked[4][8] = {{N0, N1, BAD, BAD, BAD, BAD, BAD, BAD},
+                                    {N0, N1, BAD, BAD, BAD, BAD, BAD, BAD},
+                                    {S0, BAD, S0, S1, BAD, T1, BAD, BAD},
+                                    {BAD, BAD, S0, S1, BAD, T1, BAD, BAD}};
+
+/* A privileged thread 0 on the desk in the row's state, doomed or not, with
+ * SRR1 that asks for these flags. */
+static void stands(int row, int doomed, uint8_t flags) {
+  begun();
+  if (row < 2)
+    desk = naszeptan_fresh();
+  else
+    spares(flagged(NASZEPTAN_TSR, 0));
+  if (doomed)
+    fails(event(NASZEPTAN_TABORT, 0), NASZEPTAN_RECORDED, 1);
+  struct naszeptan_control *k = &desk.threads[0].control;
+  k->pr = 0;
+  k->tm = (uint8_t)(row & 1);
+  k->nia = 0x700;
+  k->srr0 = 0x3003;
+  k->srr1 = (uint64_t)(flags & 3) << 33 | (uint64_t)(flags >> 2 & 1) << 32 |
+            (uint64_t)(flags >> 3) << 14;
+}
+
+/* One cell, by this kind. */
+static void cell(int row, int doomed, uint8_t kind, uint8_t flags) {
+  uint8_t becomes = asked[row][2 * (flags & 3) + (flags >> 2 & 1)];
+  struct naszeptan_event e = event(kind, 0);
+  e.flags = kind == NASZEPTAN_MTMSRD ? flags : 0;
+  stands(row, doomed, flags);
+  if (becomes == BAD) {
+    refused(desk, NASZEPTAN_MEMORY, e, NASZEPTAN_BAD_THING);
+    return;
+  }
+  uint8_t pr = flags >> 3, tm = becomes >> 2;
+  if (doomed && becomes == T1) {
+    uint64_t tfhar = desk.threads[0].control.tfhar;
+    fails(e, NASZEPTAN_HANDLED, 1);
+    CHECK(is_at(NASZEPTAN_N, pr, tm, tfhar) && desk.threads[0].cr0 == 10);
+    return;
+  }
+  static const uint8_t states[] = {NASZEPTAN_N, NASZEPTAN_S, NASZEPTAN_T};
+  uint64_t nia = kind == NASZEPTAN_RFID ? 0x3000 : 0x704;
+  spares(e);
+  CHECK(is_at(states[becomes & 3], pr, tm, nia));
+  CHECK(desk.threads[0].control.doomed == doomed);
+}
+
+/* Every cell, and T, where both fail whatever is asked. */
+static void returns(void) {
+  interrupted(0);
+  interrupted(1);
+  for (uint8_t kind = NASZEPTAN_RFID; kind <= NASZEPTAN_MTMSRD; kind++)
+    for (uint8_t flags = 0; flags < 16; flags++) {
+      for (int row = 0; row < 4; row++)
+        cell(row, 0, kind, flags);
+      cell(2, 1, kind, flags);
+      cell(3, 1, kind, flags);
+      begun();
+      struct naszeptan_event e = event(kind, 0);
+      e.flags = kind == NASZEPTAN_MTMSRD ? flags : 0;
+      fails(e, NASZEPTAN_HANDLED, 1);
+      CHECK(desk.threads[0].control.texasr == UINT64_C(0x008000000C000001));
+    }
+  refused(naszeptan_fresh(), NASZEPTAN_MEMORY, flagged(NASZEPTAN_MTMSRD, 16),
+          NASZEPTAN_FIELD);
+}
+
 /* The SPRs, by what mfspr gives of a thread whose registers are set. */
 static void special_registers(void) {
   struct naszeptan_machine m = naszeptan_fresh();
@@ -618,14 +736,23 @@ static void special_registers(void) {
   m.threads[0].control.tfhar = 0x10;
   m.threads[0].control.tfiar = 0x21;
   m.threads[0].control.texasr = UINT64_C(0x0008000018000001);
-  static const uint64_t wanted[] = {0x10, 0x21, UINT64_C(0x0008000018000001),
-                                    0x00080000};
-  static const uint8_t numbers[] = {NASZEPTAN_SPR_TFHAR, NASZEPTAN_SPR_TFIAR,
-                                    NASZEPTAN_SPR_TEXASR,
-                                    NASZEPTAN_SPR_TEXASRU};
-  for (int n = 0; n < 4; n++) {
+  m.threads[0].control.srr0 = 0x1003;
+  m.threads[0].control.srr1 = UINT64_MAX;
+  static const uint64_t wanted[] = {
+      0x10, 0x21, UINT64_C(0x0008000018000001), 0x00080000, 0x1003, UINT64_MAX};
+  static const uint8_t numbers[] = {NASZEPTAN_SPR_TFHAR,  NASZEPTAN_SPR_TFIAR,
+                                    NASZEPTAN_SPR_TEXASR, NASZEPTAN_SPR_TEXASRU,
+                                    NASZEPTAN_SPR_SRR0,   NASZEPTAN_SPR_SRR1};
+  for (int n = 0; n < 6; n++) {
     e.x = numbers[n];
     e.ra = 9;
+    /* SRR0 and SRR1 are privileged, whatever TM is. */
+    if (n >= 4) {
+      m.threads[0].control.tm = n == 4;
+      m.threads[0].control.pr = 1;
+      refused(m, NASZEPTAN_MEMORY, e, NASZEPTAN_PRIVILEGED);
+      m.threads[0].control.pr = 0;
+    }
     struct naszeptan_done done = naszeptan_step(m, memory, NASZEPTAN_MEMORY, e);
     CHECK(done.machine.threads[0].live.gpr[9] == wanted[n]);
   }
@@ -707,7 +834,7 @@ static void writer_of_edition_two(void) {
   unused = far;
   unused.rb = 1;
   none = unused;
-  none.kind = 18;
+  none.kind = 20;
   memset(buffer, 0xAA, sizeof buffer);
   for (size_t bytes = 0; bytes <= 17; bytes++) {
     CHECK(naszeptan_write_two(none, buffer, bytes) == NASZEPTAN_NO_KIND);
@@ -719,6 +846,15 @@ static void writer_of_edition_two(void) {
   }
   CHECK(naszeptan_write_two(e, buffer, 17) == NASZEPTAN_DONE);
   CHECK(memcmp(buffer, two, 16) == 0 && kept(buffer, 16, 17));
+  /* Edition two has no kind above 17, and tells the thread first. */
+  memset(buffer, 0xAA, sizeof buffer);
+  for (uint8_t kind = NASZEPTAN_RFID; kind <= NASZEPTAN_MTMSRD; kind++) {
+    CHECK(naszeptan_write_two(event(kind, 3), buffer, 17) == NASZEPTAN_NO_KIND);
+    CHECK(naszeptan_write_two(event(kind, 3), buffer, 15) == NASZEPTAN_NO_KIND);
+    CHECK(naszeptan_write_two(event(kind, 4), buffer, 17) ==
+          NASZEPTAN_NO_THREAD);
+    CHECK(kept(buffer, 0, 17));
+  }
 }
 
 typedef struct naszeptan_converted converter(const uint8_t *, size_t, uint8_t *,
@@ -754,7 +890,7 @@ static void converts(converter *convert, const uint8_t *from,
   memcpy(tape + 16, from, 16);
   tape[16 + 15] = 1;
   not_converted(convert, tape, 32, 32, NASZEPTAN_FIELD, 1);
-  tape[16 + 1] = 18;
+  tape[16 + 1] = 20;
   not_converted(convert, tape, 32, 32, NASZEPTAN_NO_KIND, 1);
   /* 6 comes before 10, and 10 before a record. */
   not_converted(convert, tape, 32, 31, NASZEPTAN_SHORT_BUFFER, 0);
@@ -773,6 +909,9 @@ static void converters(void) {
   not_converted(naszeptan_three_to_two, tape, 16, 16, NASZEPTAN_NO_THREAD, 0);
   tape[7] = 1;
   not_converted(naszeptan_three_to_two, tape, 16, 16, NASZEPTAN_FIELD, 0);
+  /* Nor has it rfid. */
+  CHECK(naszeptan_write(event(NASZEPTAN_RFID, 0), tape, 16) == NASZEPTAN_DONE);
+  not_converted(naszeptan_three_to_two, tape, 16, 16, NASZEPTAN_NO_KIND, 0);
 }
 
 int main(void) {
@@ -786,6 +925,7 @@ int main(void) {
   failed_by_no_commit();
   failed_others();
   fields();
+  returns();
   special_registers();
   records();
   reader_of_edition_two();

@@ -3,9 +3,10 @@
  *
  * Link target/staticlib/libhost.a. It is code for x86-64 Linux and needs
  * nothing but memcpy, memmove and memset of the C library. It keeps no state,
- * prints nothing and allocates nothing: the machine (6,696 bytes), or a session
- * with one (6,728 bytes), is passed and given back by value; memory, tapes and
- * buffers are lent by pointer and length. Calls from several threads at once are fine where they lend
+ * prints nothing and allocates nothing: the machine (6,760 bytes), or a session
+ * with one (6,792 bytes), is passed and given back by value; memory, tapes and
+ * buffers are lent by pointer and length. Calls from several threads at once
+ * are fine where they lend
  * different memory. Leave a call 256 KB of stack.
  *
  * Any bits may be handed in. The one thing that a caller must keep: a pointer
@@ -34,7 +35,7 @@ extern "C" {
 /* The version of the rules that this header was written for: the model's
  * version in the upper 16 bits, the change requests that have landed in the
  * lower. naszeptan_version() gives the archive's. */
-#define NASZEPTAN_VERSION UINT32_C(0x00040007)
+#define NASZEPTAN_VERSION UINT32_C(0x00040008)
 
 /* Sizes. */
 #define NASZEPTAN_THREADS 4        /* thread records of a machine */
@@ -60,7 +61,7 @@ enum naszeptan_answer {
   NASZEPTAN_TAPE_LENGTH = 6,   /* tape not a multiple of 16 bytes */
   NASZEPTAN_BAD_FIRST_BYTE = 7,/* a record's first byte is not 0xE3; edition two:
                                   above 3 */
-  NASZEPTAN_NO_KIND = 8,       /* kind not 1 to 17 */
+  NASZEPTAN_NO_KIND = 8,       /* kind not 1 to 19; edition two: not 1 to 17 */
   NASZEPTAN_FIELD = 9,         /* an unused field or a fixed byte is not 0, or
                                   flags too big */
   NASZEPTAN_SHORT_BUFFER = 10, /* the writer's buffer has under 16 bytes */
@@ -79,7 +80,7 @@ enum naszeptan_state {
   NASZEPTAN_S = 2  /* Suspended */
 };
 
-/* The seventeen kinds of event, and the fields that each uses. A field that
+/* The nineteen kinds of event, and the fields that each uses. A field that
  * its kind does not use must be 0. */
 enum naszeptan_kind {
   NASZEPTAN_TBEGIN = 1,     /* flags: R */
@@ -98,14 +99,31 @@ enum naszeptan_kind {
   NASZEPTAN_ADDI = 14,      /* x: RT, ra, si */
   NASZEPTAN_DISALLOWED = 15,/* none: any disallowed instruction */
   NASZEPTAN_INTERRUPT = 16, /* none */
-  NASZEPTAN_HOST = 17       /* flags: PR + 2 * TM */
+  NASZEPTAN_HOST = 17,      /* flags: PR + 2 * TM */
+  NASZEPTAN_RFID = 18,      /* none: SRR1 asks */
+  NASZEPTAN_MTMSRD = 19     /* flags: TS + 4 * TM + 8 * PR */
 };
 
-/* The SPRs that mtspr and mfspr know, for the event's x. */
+/* TS, by which rfid and mtmsrd ask for a state, has the MSR's numbers, which
+ * are not those of enum naszeptan_state; 3 is no state. */
+#define NASZEPTAN_TS_N 0
+#define NASZEPTAN_TS_S 1
+#define NASZEPTAN_TS_T 2
+
+/* The SPRs that mtspr and mfspr know, for the event's x. SRR0 and SRR1 are
+ * privileged, and no part of the facility. */
+#define NASZEPTAN_SPR_SRR0 26
+#define NASZEPTAN_SPR_SRR1 27
 #define NASZEPTAN_SPR_TFHAR 128
 #define NASZEPTAN_SPR_TFIAR 129
 #define NASZEPTAN_SPR_TEXASR 130
 #define NASZEPTAN_SPR_TEXASRU 131 /* TEXASR's upper half */
+
+/* What SRR1 keeps of the machine state, by docs/RULES.md, M15. Each macro takes
+ * the 64 bits and gives the field as a number; the other bits mean nothing. */
+#define NASZEPTAN_SRR1_TS(srr1) ((uint64_t)(srr1) >> 33 & 3) /* bits 29:30 */
+#define NASZEPTAN_SRR1_TM(srr1) ((uint64_t)(srr1) >> 32 & 1) /* bit 31 */
+#define NASZEPTAN_SRR1_PR(srr1) ((uint64_t)(srr1) >> 14 & 1) /* bit 49 */
 
 /* The fields of TEXASR, by docs/RULES.md, X2. Each macro takes the 64 bits and
  * gives the field as a number, a flag as 0 or 1. Beside each stands the macro
@@ -215,7 +233,8 @@ struct naszeptan_transaction {
 };
 
 /* pr, tm and doomed are 0 or 1; state is an enum naszeptan_state. Other
- * values are no machine. TEXASR's bit 0 is the highest of the 64. */
+ * values are no machine. TEXASR's bit 0 is the highest of the 64. An interrupt
+ * saves NIA in srr0 and TS, TM and PR in srr1; rfid goes back to them. */
 struct naszeptan_control {
   uint64_t nia;
   uint8_t pr;
@@ -225,6 +244,8 @@ struct naszeptan_control {
   uint64_t tfhar;
   uint64_t tfiar;
   uint64_t texasr;
+  uint64_t srr0;
+  uint64_t srr1;
 };
 
 struct naszeptan_thread {
@@ -265,8 +286,9 @@ struct naszeptan_event {
  *
  * So failed tells of other threads too, of which the answer says nothing: a
  * store may answer 0 and have failed three. A failure recorded in S is told
- * then, and every tresume that handles is told. treclaim. of a live
- * transaction is told; of a doomed one it is not, since it records nothing. */
+ * then, and every tresume, rfid and mtmsrd that handles is told. treclaim. of a
+ * live transaction is told; of a doomed one it is not, since it records
+ * nothing. */
 struct naszeptan_done {
   uint8_t answer;
   uint8_t failed;

@@ -13,6 +13,7 @@ use crate::editions;
 use crate::pair::Pair;
 use crate::past::Past;
 use crate::plan::Plan;
+use crate::returns;
 use crate::runs;
 use crate::sessions;
 use crate::shrink::Case;
@@ -125,9 +126,13 @@ fn sequence<S: Side>(
         let sights = event.map_or(0, |(thread, e)| {
             sights::seen(pair.machine(), &past, thread, e)
         });
+        let returns = event.map_or(None, |(thread, e)| {
+            returns::place(pair.machine(), thread, e)
+        });
         match pair.step(side, e) {
             Ok(done) => {
                 counts.event(e.kind, before, done.answer, sights);
+                counts.returns.note(returns, done.answer);
                 counts.failed(e, before, done);
             }
             Err(_) => {

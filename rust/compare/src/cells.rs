@@ -4,7 +4,8 @@
 //! A cell "can be met" from some valid machine, not only from those that
 //! events reach. A valid machine may have any PR and TM in any state, so 11
 //! and 12 do not depend on the state. Like 4, they follow from the kind's row
-//! in [`KINDS`], which the comparison so holds to both sides.
+//! in [`KINDS`], which the comparison so holds to both sides. mtspr and mfspr
+//! give both, by their SPR.
 
 use model::{Machine, State};
 use naszeptan::{Kind, KINDS};
@@ -71,6 +72,14 @@ type Cell = (&'static [u8], &'static str);
 const MOVES: Cell = (&[0], "fails nothing and is never refused here");
 const OUTSIDE: Cell = (&[0], "outside a transaction nothing of its own fails");
 const BAD: Cell = (&[13], "a Bad Thing in this state, so never done");
+/// rfid and mtmsrd; [`returns`](crate::returns) has what they ask for.
+const ASKS: [Cell; 5] = [
+    (&[0, 13], "outside a transaction nothing fails"),
+    (&[0, 13], "outside a transaction nothing fails"),
+    (&[20], "in T it always fails, and is handled at once"),
+    (&[0, 13], "going back to a live transaction fails nothing"),
+    (&[0, 13, 20], "going to T handles; it records nothing"),
+];
 const RECORDED: Cell = (&[0], "FS is 1: nothing is recorded again");
 
 /// tabortwc. and tabortdc.
@@ -136,7 +145,19 @@ const CELLS: [[Cell; 5]; KINDS.len()] = [
         BAD,
     ],
     // mtspr
-    [OUTSIDE, OUTSIDE, BAD, BAD, BAD],
+    [
+        OUTSIDE,
+        OUTSIDE,
+        BAD,
+        (
+            &[0, 13],
+            "SRR0 and SRR1 are set, and others are not; nothing fails",
+        ),
+        (
+            &[0, 13],
+            "SRR0 and SRR1 are set, and others are not; nothing fails",
+        ),
+    ],
     // mfspr
     [MOVES; 5],
     // ld
@@ -169,6 +190,10 @@ const CELLS: [[Cell; 5]; KINDS.len()] = [
     [MOVES; 5],
     // host
     [MOVES, MOVES, (&[5], "refused in T"), MOVES, MOVES],
+    // rfid
+    ASKS,
+    // mtmsrd
+    ASKS,
 ];
 
 /// The name of a kind; 0 stands for all that are none.

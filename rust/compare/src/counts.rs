@@ -8,7 +8,7 @@ use naszeptan::{raw, Kind, KINDS};
 use crate::cells::{self, Before, Call, CALLS, CALL_ROWS, NUMBERS, SHOWN, STATES};
 use crate::editions;
 use crate::masks::{self, Mask, MASKS};
-use crate::{runs, sessions, sights};
+use crate::{returns, runs, sessions, sights};
 
 /// From so many events on, all that can be met must be. Of a quarter of them the
 /// rarest are met three to five times, so that fewer may miss one by chance.
@@ -30,6 +30,8 @@ pub struct Counts {
     masks: Vec<[[u64; MASKS]; STATES]>,
     sights: [u64; sights::SIGHTS],
     calls: [[u64; NUMBERS]; CALLS],
+    /// What was met of rfid, mtmsrd, SRR0 and SRR1.
+    pub returns: returns::Met,
     /// Records done by runs.
     pub records: u64,
     /// What was met of runs.
@@ -47,6 +49,7 @@ impl Default for Counts {
             masks: vec![[[0; MASKS]; STATES]; KINDS.len() + 1],
             sights: [0; sights::SIGHTS],
             calls: [[0; NUMBERS]; CALLS],
+            returns: returns::Met::default(),
             records: 0,
             runs: runs::cells::Met::default(),
             editions: editions::cells::Met::default(),
@@ -67,7 +70,7 @@ pub(crate) fn place(answer: u8) -> usize {
 
 impl Counts {
     /// One event on which both sides agreed, and its sights.
-    pub fn event(&mut self, kind: u8, before: Before, answer: u8, sights: u64) {
+    pub fn event(&mut self, kind: u8, before: Before, answer: u8, sights: u128) {
         let before = match answer {
             1 | 2 | 3 | 8 | 9 => Before::Nobody,
             _ => before,
@@ -75,7 +78,7 @@ impl Counts {
         self.cells[kind_place(kind)][before as usize][place(answer)] += 1;
         if model::answer::is_done(answer) {
             for (bit, count) in self.sights.iter_mut().enumerate() {
-                *count += sights >> bit & 1;
+                *count += (sights >> bit & 1) as u64;
             }
         }
     }
@@ -102,6 +105,7 @@ impl Counts {
             .chain(self.masks.as_flattened().as_flattened())
             .chain(&self.sights)
             .chain(self.calls.as_flattened())
+            .chain(self.returns.numbers())
             .chain([&self.records])
             .chain(self.runs.numbers())
             .chain(self.editions.numbers())
@@ -117,6 +121,7 @@ impl Counts {
             .chain(self.masks.as_flattened_mut().as_flattened_mut())
             .chain(&mut self.sights)
             .chain(self.calls.as_flattened_mut())
+            .chain(self.returns.numbers_mut())
             .chain([&mut self.records])
             .chain(self.runs.numbers_mut())
             .chain(self.editions.numbers_mut())
@@ -158,8 +163,8 @@ impl Counts {
             .collect()
     }
 
-    /// Every cell, mask, sight and call, and all of runs, edition two and
-    /// sessions.
+    /// Every cell, mask, sight and call, and all of returns, of runs, of edition
+    /// two and of sessions.
     fn all(&self) -> impl Iterator<Item = Row> + '_ {
         let sights = self.sights.iter().zip(&sights::ALL);
         let sights = sights.map(|(&met, (_, name, _))| Row {
@@ -171,6 +176,7 @@ impl Counts {
             .chain(self.all_masks())
             .chain(sights)
             .chain(self.all_calls())
+            .chain(self.returns.rows())
             .chain(self.runs.rows())
             .chain(self.editions.rows())
             .chain(self.sessions.rows())
@@ -231,7 +237,10 @@ impl Counts {
         for (met, (_, name, _)) in self.sights.iter().zip(&sights::ALL) {
             let _ = writeln!(text, "{met:>9}  {name}");
         }
-        text + &self.runs.table() + &self.editions.tables() + &self.sessions.tables()
+        text + &self.returns.tables()
+            + &self.runs.table()
+            + &self.editions.tables()
+            + &self.sessions.tables()
     }
 
     fn write_cells(&self, text: &mut String) -> std::fmt::Result {

@@ -10,6 +10,7 @@
 //! - [`masks`]: who can fail in which event, by hand from there too.
 //! - [`sights`]: situations that must be met beside those.
 //! - [`past`]: what of a transaction's past they need.
+//! - [`returns`]: rfid, mtmsrd, SRR0 and SRR1, cell by cell.
 //! - [`counts`]: how often each was met, and what was not.
 //! - [`batch`]: a numbered piece of the comparison, and a worker's share.
 //! - [`workers`]: the shares, each in a process of its own.
@@ -33,6 +34,7 @@ pub mod masks;
 pub mod pair;
 pub mod past;
 pub mod plan;
+pub mod returns;
 pub mod runs;
 pub mod sessions;
 pub mod shrink;

@@ -149,6 +149,8 @@ fn first_difference(ours: &Thread, theirs: &raw::Thread) -> Option<&'static str>
         ("TFHAR", ours.tfhar == control.tfhar),
         ("TFIAR", ours.tfiar == control.tfiar),
         ("TEXASR", ours.texasr == control.texasr),
+        ("SRR0", ours.srr0 == control.srr0),
+        ("SRR1", ours.srr1 == control.srr1),
         ("read set", ours.reads.0 == transaction.reads.words),
         ("write set", ours.writes.0 == transaction.writes.words),
         ("log count", ours.count == transaction.count),
@@ -204,6 +206,8 @@ fn to_raw_thread(t: &Thread) -> raw::Thread {
             tfhar: t.tfhar,
             tfiar: t.tfiar,
             texasr: t.texasr,
+            srr0: t.srr0,
+            srr1: t.srr1,
         },
         transaction: raw::Transaction {
             reads: raw::Lines { words: t.reads.0 },

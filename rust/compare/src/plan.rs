@@ -5,7 +5,7 @@ use std::collections::VecDeque;
 
 use model::gen::{self, Rng};
 use model::machine::{LINE, LOG, MAX_FOOTPRINT, MAX_LEVEL};
-use model::{Event, Machine, State, Thread};
+use model::{Event, Machine, Msr, State, Thread};
 use naszeptan::raw;
 
 use crate::sides::event;
@@ -45,12 +45,30 @@ fn mended(rng: &mut Rng, m: &Machine, len: usize, (thread, e): (u8, Event)) -> E
     };
     let tm = true;
     match t.state {
+        // No event leads to T with TM = 0: what is met there is met soon.
+        State::T if !t.tm && !rng.one_in(4) => system(rng),
+        State::N | State::S if !t.tm && rng.one_in(4) => system(rng),
         State::N | State::S if !t.tm && rng.one_in(3) => Event::Host { pr: rng.flag(), tm },
         State::N if rng.one_in(4) => Event::Tbegin { r: rng.one_in(4) },
         State::S if t.doomed && rng.one_in(4) => Event::Tsr { l: true },
         State::T if is_deep(t) && rng.one_in(4) => Event::Tbegin { r: rng.flag() },
         State::T if is_full(t) && rng.flag() => pressed(rng, m, len),
         _ => e,
+    }
+}
+
+/// What the handler of an interrupt does and a program may not: it asks for any
+/// state, or moves SRR0 or SRR1.
+fn system(rng: &mut Rng) -> Event {
+    let (r, spr) = (rng.below(32) as u8, rng.pick([26, 27]));
+    match rng.below(6) {
+        0 | 1 => Event::Rfid,
+        2 => Event::Mtspr { spr, ra: r },
+        3 => Event::Mfspr { rt: r, spr },
+        _ => {
+            let Msr { ts, tm, pr } = gen::msr(rng);
+            Event::Mtmsrd { ts, tm, pr }
+        }
     }
 }
 
@@ -89,10 +107,10 @@ pub fn damaged(rng: &mut Rng, m: &Machine, len: usize) -> raw::Event {
     let (thread, e) = gen::event(rng, m, len);
     let mut e = event(thread, e);
     let byte = rng.byte();
-    let small = rng.pick([1, 2, 3, 4, 32, 128, 255, byte]);
+    let small = rng.pick([1, 2, 3, 4, 16, 32, 128, 255, byte]);
     for _ in 0..rng.pick([1, 1, 2]) {
         match rng.below(8) {
-            0 => e.kind = rng.pick([0, 18, 19, 255, byte]),
+            0 => e.kind = rng.pick([0, 18, 19, 20, 255, byte]),
             1 => e.thread = rng.pick([4, 255, byte]),
             2 => e.x = small,
             3 => e.ra = small,
@@ -138,7 +156,7 @@ fn scene(rng: &mut Rng, m: &Machine, len: usize) -> Vec<(u8, Event)> {
     }
     let r = rng.one_in(4);
     let begin = Event::Tbegin { r };
-    match rng.below(8) {
+    match rng.below(9) {
         0 => full_log(&stage, begin),
         1 => full_footprint(rng, &stage, begin),
         2 => too_deep(m, me, begin),
@@ -146,6 +164,7 @@ fn scene(rng: &mut Rng, m: &Machine, len: usize) -> Vec<(u8, Event)> {
         4 => doomed(rng, &stage, begin),
         5 => reclaimed(rng, &stage, begin),
         6 => shared(rng, &stage, count as u8),
+        7 => interrupted(rng, &stage, begin),
         _ => overwritten(rng, &stage, begin),
     }
 }
@@ -304,6 +323,37 @@ fn shared(rng: &mut Rng, stage: &Stage, count: u8) -> Vec<(u8, Event)> {
     others
         .chain(mine.into_iter().map(|e| (stage.me, e)))
         .collect()
+}
+
+/// A transaction that an interrupt suspends; the handler looks where it was, and
+/// puts it back, mostly. Some are doomed meanwhile.
+fn interrupted(rng: &mut Rng, stage: &Stage, begin: Event) -> Vec<(u8, Event)> {
+    let index = stage.index(0, rng.below(LINE));
+    let mut events = vec![
+        begin,
+        Event::Std { ra: 2, index },
+        Event::Interrupt,
+        Event::Mfspr { rt: 10, spr: 26 },
+        Event::Mfspr { rt: 11, spr: 27 },
+        Event::Addi {
+            rt: 2,
+            ra: 2,
+            si: 1,
+        },
+    ];
+    if rng.flag() {
+        events.extend([Event::Interrupt, Event::Rfid]);
+    }
+    for (spr, ra) in [(26, 10), (27, 11)] {
+        events.extend(rng.flag().then_some(Event::Mtspr { spr, ra }));
+    }
+    let mut scene = alone(stage.me.into(), events);
+    if rng.flag() {
+        let by = rng.pick([stage.me, stage.other]);
+        scene.push((by, Event::Std { ra: 3, index }));
+    }
+    scene.push((stage.me, Event::Rfid));
+    scene
 }
 
 /// A doubleword stored twice, loaded, committed, and loaded by another.

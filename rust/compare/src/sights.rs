@@ -3,7 +3,7 @@
 //! transaction's past too, and counts if the event was done.
 
 use model::machine::{LINE, LOG, MAX_FOOTPRINT, MAX_LEVEL};
-use model::{Event, Machine, State, Thread};
+use model::{Event, Machine, Msr, State, Thread};
 
 use crate::past::Past;
 
@@ -20,7 +20,7 @@ pub struct View<'a> {
 type Sight = (u8, &'static str, fn(&View) -> bool);
 
 /// How many sights there are.
-pub const SIGHTS: usize = 64;
+pub const SIGHTS: usize = 86;
 
 /// All of them.
 #[rustfmt::skip]
@@ -89,12 +89,37 @@ pub const ALL: [Sight; SIGHTS] = [
     (13, "std to a line loaded before ROT went off", |v| v.others().any(|(n, t)| v.past.loaded(n, v.line()) && !has(t, v.line()))),
     (13, "std fails one by a load after ROT went off", |v| v.others().any(|(n, t)| v.past.off(n) && v.is_victim(n, t) && !t.writes.contains(v.line()))),
     (16, "interrupt of a transaction with a log", |v| v.state(State::T) && v.thread.count > 0),
+    (16, "interrupt in T with PR = 1 and TM = 1", |v| v.state(State::T) && v.thread.pr && v.thread.tm),
+    (16, "interrupt in T with PR = 0", |v| v.state(State::T) && !v.thread.pr),
+    (16, "interrupt in S with TM = 1", |v| v.state(State::S) && v.thread.tm),
+    (16, "interrupt in S with TM = 0", |v| v.state(State::S) && !v.thread.tm),
+    (16, "interrupt of a doomed thread", |v| v.thread.doomed),
+    (16, "interrupt in N with PR = 1", |v| v.state(State::N) && v.thread.pr),
+    (16, "interrupt over an SRR1 of other bits", |v| v.thread.srr1 & !ASKING != 0),
+    (10, "mtspr SRR0 with low bits", |v| v.x() == 26 && v.gpr(v.ra()) & 3 != 0),
+    (10, "mtspr SRR1 with bits that mean nothing", |v| v.x() == 27 && v.gpr(v.ra()) & !ASKING != 0),
+    (10, "mtspr SRR1 with bits that ask", |v| v.x() == 27 && v.gpr(v.ra()) & ASKING != 0),
+    (11, "mfspr SRR0", |v| v.x() == 26 && v.thread.srr0 != 0),
+    (11, "mfspr SRR1", |v| v.x() == 27 && v.thread.srr1 != 0),
+    (18, "rfid to an SRR0 with low bits", |v| !v.fails_asking() && v.thread.srr0 & 3 != 0),
+    (18, "rfid by an SRR1 with bits that mean nothing", |v| v.thread.srr1 & !ASKING != 0),
+    (18, "rfid back to a transaction with a log", |v| v.resumes() && v.thread.count > 0),
+    (18, "rfid handles, with registers to bring back", |v| v.resumes() && v.thread.doomed && v.thread.live != v.thread.checkpoint),
+    (18, "rfid handles, where SRR0 is not TFHAR", |v| v.resumes() && v.thread.doomed && v.thread.srr0 & !3 != v.thread.tfhar),
+    (18, "rfid of S with TM = 0 for N, to problem state", |v| v.state(State::S) && v.asked().ts == 0 && v.asked().pr),
+    (19, "mtmsrd of S with TM = 0 for N, to problem state", |v| v.state(State::S) && v.asked().ts == 0 && v.asked().pr),
+    (19, "mtmsrd back to a transaction with a log", |v| v.resumes() && v.thread.count > 0),
+    (19, "mtmsrd handles, with registers to bring back", |v| v.resumes() && v.thread.doomed && v.thread.live != v.thread.checkpoint),
+    (19, "mtmsrd at 2^64 - 4", |v| !v.fails_asking() && v.thread.nia == !3),
 ];
 
-const _: () = assert!(SIGHTS <= 64, "one bit each");
+/// The bits of SRR1 by which rfid asks.
+const ASKING: u64 = 0x7_0000_4000;
+
+const _: () = assert!(SIGHTS <= 128, "one bit each");
 
 /// The sights of this event, one bit each.
-pub fn seen(machine: &Machine, past: &Past, thread: u8, event: Event) -> u64 {
+pub fn seen(machine: &Machine, past: &Past, thread: u8, event: Event) -> u128 {
     let me = usize::from(thread);
     if me >= machine.count.min(machine.threads.len()) {
         return 0;
@@ -166,6 +191,24 @@ impl View<'_> {
             }
             _ => false,
         }
+    }
+
+    /// What an rfid or mtmsrd asks for.
+    fn asked(&self) -> Msr {
+        match self.event {
+            Event::Mtmsrd { ts, tm, pr } => Msr { ts, tm, pr },
+            _ => Msr::of(self.thread.srr1),
+        }
+    }
+
+    /// Whether an rfid or mtmsrd that is done goes from S to T.
+    fn resumes(&self) -> bool {
+        self.state(State::S) && self.asked().ts == 2
+    }
+
+    /// Whether an rfid or mtmsrd that is done goes to TFHAR.
+    fn fails_asking(&self) -> bool {
+        self.state(State::T) || self.resumes() && self.thread.doomed
     }
 
     /// Whether a tbegin. goes one level down.

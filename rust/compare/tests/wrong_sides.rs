@@ -189,6 +189,200 @@ fn rot_left_on_is_shrunk_to_two_begins() {
     assert!(text.contains("TEXASR"), "{text}");
 }
 
+/// A side that differs in what becomes of rfid and mtmsrd, or of an interrupt:
+/// what it makes of the thread's record from before and of the right outcome.
+struct Returns(fn(&raw::Thread, raw::Event, &mut Done, &mut raw::Thread));
+
+impl Side for Returns {
+    fn step(&self, m: &mut raw::Machine, memory: &mut [u64], e: raw::Event) -> Done {
+        let thread = usize::from(e.thread);
+        let before = m.threads.get(thread).copied();
+        let mut done = Archive.step(m, memory, e);
+        if let (Some(before), 16 | 18 | 19) = (before, e.kind) {
+            if model::answer::is_done(done.answer) {
+                self.0(&before, e, &mut done, &mut m.threads[thread]);
+            }
+        }
+        done
+    }
+}
+
+/// The kind of the last record, and what differs first.
+fn last_and_what(side: &Returns) -> (u8, String) {
+    let (case, text) = shrunk(side);
+    let last = kinds(&case).pop().expect("a record");
+    (last, text)
+}
+
+/// S with TM = 0 that asks for N with TM = 0 becomes N. (That TM is then taken
+/// shows nowhere: it is 0 before, and 0 is asked.)
+const TAKES_N: Returns = Returns(|before, e, done, after| {
+    let stays = before.control.state == 2 && after.control.state == 2;
+    let asks_n = match e.kind {
+        18 => before.control.srr1 >> 33 & 3 == 0,
+        19 => e.flags & 3 == 0,
+        _ => false,
+    };
+    if stays && asks_n && done.answer == 0 {
+        after.control.state = 0;
+    }
+});
+
+/// SRR1 is saved after PR was cleared.
+const SAVES_LATE: Returns = Returns(|_, e, _, after| {
+    if e.kind == 16 {
+        after.control.srr1 &= !(1 << 14);
+    }
+});
+
+/// SRR1 is saved after T became S.
+const SAVES_S: Returns = Returns(|_, e, _, after| {
+    if e.kind == 16 && after.control.srr1 >> 34 & 1 != 0 {
+        after.control.srr1 ^= 3 << 33;
+    }
+});
+
+/// An interrupt leaves NIA.
+const LEAVES_NIA: Returns = Returns(|before, e, _, after| {
+    if e.kind == 16 {
+        after.control.nia = before.control.nia;
+    }
+});
+
+/// A doomed transaction goes on in T, and nothing is handled.
+const HANDLES_NOT: Returns = Returns(|before, _, done, after| {
+    if before.control.state == 2 && done.answer == 20 {
+        let (pr, tm) = (after.control.pr, after.control.tm);
+        *after = *before;
+        (after.control.pr, after.control.tm) = (pr, tm);
+        after.control.state = 1;
+        *done = Done {
+            answer: 0,
+            failed: 0,
+        };
+    }
+});
+
+/// Where it is handled, PR stays.
+const HANDLES_FIRST: Returns = Returns(|before, _, done, after| {
+    if done.answer == 20 {
+        after.control.pr = before.control.pr;
+    }
+});
+
+/// PR is not taken.
+const LEAVES_PR: Returns = Returns(|before, e, _, after| {
+    if e.kind != 16 {
+        after.control.pr = before.control.pr;
+    }
+});
+
+/// rfid keeps the two low bits of SRR0.
+const KEEPS_LOW_BITS: Returns = Returns(|before, e, done, after| {
+    if e.kind == 18 && done.answer == 0 {
+        after.control.nia = before.control.srr0;
+    }
+});
+
+/// rfid sets CR0 from the state, as tresume does.
+const SETS_CR0: Returns = Returns(|before, e, done, after| {
+    if e.kind == 18 && done.answer == 0 {
+        after.cr0 = [0b0000, 0b0100, 0b0010][usize::from(before.control.state)];
+    }
+});
+
+/// rfid clears SRR1.
+const CLEARS_SRR1: Returns = Returns(|_, e, _, after| {
+    if e.kind == 18 {
+        after.control.srr1 = 0;
+    }
+});
+
+#[test]
+fn wrong_interrupts_are_found() {
+    for (side, field) in [
+        (&SAVES_LATE, "SRR1"),
+        (&SAVES_S, "SRR1"),
+        (&LEAVES_NIA, "NIA"),
+    ] {
+        let (last, text) = last_and_what(side);
+        assert_eq!(last, 16, "{text}");
+        assert!(text.contains(field), "{text}");
+    }
+}
+
+#[test]
+fn wrong_returns_are_found() {
+    for (side, field) in [
+        (&TAKES_N, "state"),
+        (&HANDLES_NOT, "answer: model 20, proved 0"),
+        (&HANDLES_FIRST, "PR"),
+        (&LEAVES_PR, "PR"),
+        (&KEEPS_LOW_BITS, "NIA"),
+        (&SETS_CR0, "CR0"),
+        (&CLEARS_SRR1, "SRR1"),
+    ] {
+        let (last, text) = last_and_what(side);
+        assert!(matches!(last, 18 | 19), "{text}");
+        assert!(text.contains(field), "{text}");
+    }
+}
+
+/// A side that gives another answer to some events of a thread as it stands,
+/// and does not do them.
+struct Refuses(fn(&raw::Control, raw::Event) -> bool, u8);
+
+impl Side for Refuses {
+    fn step(&self, m: &mut raw::Machine, memory: &mut [u64], e: raw::Event) -> Done {
+        let (before, kept) = (*m, memory.to_vec());
+        let done = Archive.step(m, memory, e);
+        let thread = before.threads.get(usize::from(e.thread));
+        let refuses = thread.is_some_and(|t| self.0(&t.control, e));
+        if !refuses || !model::answer::is_done(done.answer) {
+            return done;
+        }
+        *m = before;
+        memory.copy_from_slice(&kept);
+        Done::refused(self.1)
+    }
+}
+
+/// mtspr and mfspr of SRR0 or SRR1.
+fn of_srr(e: raw::Event) -> bool {
+    matches!((e.kind, e.x), (10 | 11, 26 | 27))
+}
+
+/// SRR0 and SRR1 are taken for a part of the facility.
+const ASKS_FOR_TM: Refuses = Refuses(|control, e| of_srr(e) && control.tm == 0, 11);
+/// They are not set in S.
+const BAD_IN_S: Refuses = Refuses(
+    |control, e| of_srr(e) && e.kind == 10 && control.state == 2,
+    13,
+);
+/// rfid and mtmsrd are taken for TM instructions.
+const TM_INSTRUCTIONS: Refuses = Refuses(|control, e| e.kind >= 18 && control.tm == 0, 11);
+/// In T they are a Bad Thing.
+const BAD_IN_T: Refuses = Refuses(
+    |control, e| e.kind >= 18 && control.state == 1 && control.pr == 0,
+    13,
+);
+
+#[test]
+fn wrong_refusals_of_the_system_are_found() {
+    for (side, last) in [
+        (&ASKS_FOR_TM, [10, 11]),
+        (&BAD_IN_S, [10, 10]),
+        (&TM_INSTRUCTIONS, [18, 19]),
+        (&BAD_IN_T, [18, 19]),
+    ] {
+        let (case, text) = shrunk(side);
+        let kind = kinds(&case).pop().expect("a record");
+        assert!(last.contains(&kind), "{text}");
+        let answer = format!("proved {}", side.1);
+        assert!(text.contains(&answer), "{text}");
+    }
+}
+
 /// Has one level less: a tbegin. overflows at the last level but one.
 struct Shallow;
 
@@ -342,14 +536,15 @@ fn half_runs_are_shrunk_to_few_records() {
     assert!(case.tail.is_some_and(|tail| !tail.is_empty()));
 }
 
-/// Lets an event of a broken machine through.
+/// Lets an event of a broken machine through, if its bits are one.
 struct Trusts;
 
 impl Side for Trusts {
     fn step(&self, m: &mut raw::Machine, memory: &mut [u64], e: raw::Event) -> Done {
+        let is_machine = naszeptan::Machine::try_from(&*m).is_ok();
         let done = Archive.step(m, memory, e);
         let answer = match done.answer {
-            2 => 0,
+            2 if is_machine => 0,
             answer => answer,
         };
         Done { answer, ..done }
@@ -551,6 +746,10 @@ fn what_was_not_met_is_told() {
         "std, S, 21",
         "std, S, failed: and 3",
         "tsr., S, doomed, failed: itself",
+        "rfid, S, TM = 0, doomed, asks T,1, PR 1: 20",
+        "mtmsrd, S, TM = 0, asks N,0, PR 0: 0",
+        "mtspr SRR0, T, PR=0 TM=0: 13",
+        "rfid to an SRR0 with low bits",
         "run, none done, 6",
         "run: 7 behind records that would be done",
         "run: 9 behind a refusal by 3",

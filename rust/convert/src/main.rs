@@ -92,6 +92,7 @@ fn words(from: Edition, answer: Answer, record: &[u8]) -> String {
             };
             format!("a record's first byte (0x{first:02x}, not {right})")
         }
+        // Of either edition: edition two has no other, so neither is converted.
         Answer::NoKind => format!("a record's kind (kind {kind}, not 1 to 17)"),
         Answer::Field => {
             format!("an unused field or a fixed byte that is not 0, or flags too big (kind {kind})")
@@ -148,6 +149,16 @@ mod tests {
         ] {
             assert_eq!(said(from, n, byte), format!("record 1: {words}"));
         }
+    }
+
+    /// A good record, of a kind that edition two has not.
+    #[test]
+    fn a_later_kind() {
+        let mut tape = Tape::new();
+        tape.push(0, Event::Rfid);
+        let refused = tape.convert(Edition::Three).expect_err("rfid");
+        let words = "record 0: 8, a record's kind (kind 18, not 1 to 17)";
+        assert_eq!(told(&tape, refused), words);
     }
 
     #[test]

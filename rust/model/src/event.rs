@@ -1,30 +1,76 @@
-//! Rules E1 to E17: a case for each kind.
+//! Rules E1 to E19: a case for each kind.
 
 /// One event. Operands take any value of their width; what is out of range is
 /// refused when the event is done.
 #[derive(Clone, Copy, PartialEq, Eq, Hash, Debug)]
 pub enum Event {
-    Tbegin { r: bool },
-    Tend { a: bool },
-    Tabort { ra: u8 },
-    Tabortwc { to: u8, ra: u8, rb: u8 },
-    Tabortdc { to: u8, ra: u8, rb: u8 },
-    Tsr { l: bool },
-    Tcheck { bf: u8 },
-    Treclaim { ra: u8 },
+    Tbegin {
+        r: bool,
+    },
+    Tend {
+        a: bool,
+    },
+    Tabort {
+        ra: u8,
+    },
+    Tabortwc {
+        to: u8,
+        ra: u8,
+        rb: u8,
+    },
+    Tabortdc {
+        to: u8,
+        ra: u8,
+        rb: u8,
+    },
+    Tsr {
+        l: bool,
+    },
+    Tcheck {
+        bf: u8,
+    },
+    Treclaim {
+        ra: u8,
+    },
     Trechkpt,
-    Mtspr { spr: u8, ra: u8 },
-    Mfspr { rt: u8, spr: u8 },
-    Ld { rt: u8, index: u32 },
-    Std { ra: u8, index: u32 },
-    Addi { rt: u8, ra: u8, si: u16 },
+    Mtspr {
+        spr: u8,
+        ra: u8,
+    },
+    Mfspr {
+        rt: u8,
+        spr: u8,
+    },
+    Ld {
+        rt: u8,
+        index: u32,
+    },
+    Std {
+        ra: u8,
+        index: u32,
+    },
+    Addi {
+        rt: u8,
+        ra: u8,
+        si: u16,
+    },
     Disallowed,
     Interrupt,
-    Host { pr: bool, tm: bool },
+    Host {
+        pr: bool,
+        tm: bool,
+    },
+    Rfid,
+    /// TS is a number of two bits, 0 to 3.
+    Mtmsrd {
+        ts: u8,
+        tm: bool,
+        pr: bool,
+    },
 }
 
 impl Event {
-    /// The number of the event in rules E1 to E17.
+    /// The number of the event in rules E1 to E19.
     #[inline]
     pub fn kind(&self) -> u8 {
         match self {
@@ -45,6 +91,8 @@ impl Event {
             Event::Disallowed => 15,
             Event::Interrupt => 16,
             Event::Host { .. } => 17,
+            Event::Rfid => 18,
+            Event::Mtmsrd { .. } => 19,
         }
     }
 }

@@ -4,7 +4,7 @@
 //! Comments name the rules of docs/RULES.md that a piece of code follows.
 //!
 //! - [`machine`]: the state and what makes it valid.
-//! - [`event`]: the seventeen events.
+//! - [`event`]: the nineteen events.
 //! - [`step`](mod@step): doing one event.
 //! - [`tape`]: reading and writing records.
 //! - [`edition_two`]: the same for records of edition two.
@@ -28,7 +28,7 @@ pub mod tape;
 
 pub use edition::Edition;
 pub use event::Event;
-pub use machine::{valid, Entry, LineSet, Machine, Registers, State, Thread};
+pub use machine::{valid, Entry, LineSet, Machine, Msr, Registers, State, Thread};
 pub use run::{program, run, run_with_answers, Ended};
 pub use session::{Fed, Session};
 pub use step::{step, step_trusted, step_with_failed, Done};

@@ -1,4 +1,4 @@
-//! Rules M1 to M14, the state, and V1 to V14, what makes it valid.
+//! Rules M1 to M15, the state, and V1 to V14, what makes it valid.
 
 /// Doublewords in a line.
 pub const LINE: usize = 16;
@@ -28,6 +28,41 @@ pub mod texasr {
     pub const TL: u64 = 0xFFF;
 }
 
+/// What SRR1 keeps of the machine state, and what rfid and mtmsrd ask for (rule
+/// M15).
+#[derive(Clone, Copy, PartialEq, Eq, Debug)]
+pub struct Msr {
+    /// The two bits TS as a number: 0 is N, 1 is S, 2 is T, and 3 is no state.
+    pub ts: u8,
+    pub tm: bool,
+    pub pr: bool,
+}
+
+impl Msr {
+    /// Bit 30, the lower one of TS.
+    const TS: u32 = 63 - 30;
+    const TM: u32 = 63 - 31;
+    const PR: u32 = 63 - 49;
+
+    /// What a value of SRR1 says. Its other bits mean nothing.
+    #[inline]
+    pub fn of(srr1: u64) -> Msr {
+        Msr {
+            ts: (srr1 >> Msr::TS & 3) as u8,
+            tm: srr1 >> Msr::TM & 1 != 0,
+            pr: srr1 >> Msr::PR & 1 != 0,
+        }
+    }
+
+    /// The value of SRR1 that says this, its other bits 0.
+    #[inline]
+    pub fn bits(self) -> u64 {
+        u64::from(self.ts) << Msr::TS
+            | u64::from(self.tm) << Msr::TM
+            | u64::from(self.pr) << Msr::PR
+    }
+}
+
 /// The registers that a checkpoint keeps: CR field `n` is `cr[n - 1]`, for 1
 /// to 7. CR0 is no part of it.
 #[derive(Clone, Copy, PartialEq, Eq, Debug)]
@@ -49,6 +84,18 @@ pub enum State {
     N,
     T,
     S,
+}
+
+impl State {
+    /// The two bits TS as a number (rule M7).
+    #[inline]
+    pub fn ts(self) -> u8 {
+        match self {
+            State::N => 0b00,
+            State::T => 0b10,
+            State::S => 0b01,
+        }
+    }
 }
 
 /// One place of a log.
@@ -133,6 +180,8 @@ pub struct Thread {
     pub tfhar: u64,
     pub tfiar: u64,
     pub texasr: u64,
+    pub srr0: u64,
+    pub srr1: u64,
     pub reads: LineSet,
     pub writes: LineSet,
     pub count: usize,
@@ -153,6 +202,8 @@ impl Thread {
         tfhar: 0,
         tfiar: 0,
         texasr: 0,
+        srr0: 0,
+        srr1: 0,
         reads: LineSet::EMPTY,
         writes: LineSet::EMPTY,
         count: 0,

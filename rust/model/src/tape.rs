@@ -7,6 +7,8 @@ use crate::{answer, Event};
 pub const RECORD: usize = 16;
 /// A record's first byte.
 pub const MARK: u8 = 0xE3;
+/// How many kinds there are; the last is of this number.
+pub const KINDS: usize = 19;
 
 /// The fields of a record, whatever its edition: where each of them stands, and
 /// what stands beside them, is the edition's own.
@@ -24,7 +26,7 @@ pub struct Fields {
 
 /// For each kind, the bits of a record that must be 0, the record taken as a
 /// number with its first byte the highest.
-static MUST_BE_ZERO: [u128; 18] = {
+static MUST_BE_ZERO: [u128; KINDS + 1] = {
     /// Where a byte of the record may have these bits.
     const fn at(byte: u32, bits: u128) -> u128 {
         bits << (8 * (15 - byte))
@@ -34,6 +36,7 @@ static MUST_BE_ZERO: [u128; 18] = {
     const RB: u128 = at(5, 0xFF);
     const ONE_FLAG: u128 = at(6, 1);
     const TWO_FLAGS: u128 = at(6, 3);
+    const FOUR_FLAGS: u128 = at(6, 15);
     const INDEX: u128 = at(11, 0xFFFF_FFFF);
     const SI: u128 = at(13, 0xFFFF);
     let used = [
@@ -55,12 +58,14 @@ static MUST_BE_ZERO: [u128; 18] = {
         0,           // disallowed
         0,           // interrupt
         TWO_FLAGS,   // host
+        0,           // rfid
+        FOUR_FLAGS,  // mtmsrd
     ];
     // First byte, kind and thread are read by themselves.
     let head = at(2, 0xFF_FFFF);
-    let mut table = [0; 18];
+    let mut table = [0; KINDS + 1];
     let mut kind = 0;
-    while kind < 18 {
+    while kind <= KINDS {
         table[kind] = !(head | used[kind]);
         kind += 1;
     }
@@ -90,7 +95,7 @@ pub(crate) fn judge(record: &[u8; RECORD]) -> Result<(), u8> {
     if mark != MARK {
         return Err(answer::MARK);
     }
-    if !matches!(kind, 1..=17) {
+    if !matches!(kind, 1..=19) {
         return Err(answer::KIND);
     }
     if u128::from_be_bytes(*record) & MUST_BE_ZERO[usize::from(kind)] != 0 {
@@ -163,7 +168,10 @@ impl Fields {
             Event::Std { ra, index } => (f.ra, f.index) = (ra, index),
             Event::Addi { rt, ra, si } => (f.x, f.ra, f.si) = (rt, ra, si),
             Event::Host { pr, tm } => f.flags = u8::from(pr) | u8::from(tm) << 1,
-            Event::Trechkpt | Event::Disallowed | Event::Interrupt => {}
+            Event::Mtmsrd { ts, tm, pr } => {
+                f.flags = ts & 3 | u8::from(tm) << 2 | u8::from(pr) << 3;
+            }
+            Event::Trechkpt | Event::Disallowed | Event::Interrupt | Event::Rfid => {}
         }
         f
     }
@@ -194,6 +202,12 @@ impl Fields {
             15 => Event::Disallowed,
             16 => Event::Interrupt,
             17 => Event::Host { pr: one, tm: two },
+            18 => Event::Rfid,
+            19 => Event::Mtmsrd {
+                ts: self.flags & 3,
+                tm: self.flags & 4 != 0,
+                pr: self.flags & 8 != 0,
+            },
             _ => return None,
         })
     }

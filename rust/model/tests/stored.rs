@@ -48,6 +48,8 @@ fn poke_thread(t: &mut Thread, field: u8, i: usize, index: u64, v: u64) {
         12 => t.tfhar = v,
         13 => t.tfiar = v,
         14 => t.texasr = v,
+        21 => t.srr0 = v,
+        22 => t.srr1 = v,
         15 if i < 4 => t.reads.0[i] = v,
         16 if i < 4 => t.writes.0[i] = v,
         17 => t.count = v as usize,
@@ -118,6 +120,8 @@ fn show_thread(out: &mut String, w: usize, t: &Thread) {
         ("tfhar", t.tfhar, 0),
         ("tfiar", t.tfiar, 0),
         ("texasr", t.texasr, 0),
+        ("srr0", t.srr0, 0),
+        ("srr1", t.srr1, 0),
     ] {
         show(out, format!("t{w}.{name}"), v, fresh);
     }
@@ -181,6 +185,7 @@ fn hold_vectors(name: &str) -> usize {
 fn vectors_agree() {
     assert!(hold_vectors("test_vectors") > 300);
     assert!(hold_vectors("test_vectors_more") > 250);
+    assert!(hold_vectors("test_vectors_returns") > 200);
 }
 
 #[test]
@@ -240,7 +245,7 @@ fn tapes() -> Vec<(PathBuf, Vec<u8>, String)> {
 #[test]
 fn texts_beside_the_tapes_agree() {
     let tapes = tapes();
-    assert_eq!(tapes.len(), 12);
+    assert_eq!(tapes.len(), 13);
     for (path, tape, text) in tapes {
         let given = program(&tape);
         let given: Vec<&str> = given.lines().collect();
@@ -319,5 +324,5 @@ fn tapes_are_refused_as_the_wrong_edition() {
         assert_eq!(edition.other().convert(&tape, &mut buf), (7, 0), "{path:?}");
         mixed_up += 1;
     }
-    assert_eq!(mixed_up, 9);
+    assert_eq!(mixed_up, 10);
 }

@@ -26,6 +26,8 @@ use crate::Answer;
 ///
 /// // Edition two has four threads.
 /// assert_eq!(store.write_in(Edition::Two, 4), Err(Answer::NoThread));
+/// // And kinds 1 to 17.
+/// assert_eq!(Event::Rfid.write_in(Edition::Two, 0), Err(Answer::NoKind));
 /// assert_eq!(Edition::Two.to_string(), "edition two");
 /// ```
 #[derive(Clone, Copy, Debug, PartialEq, Eq, PartialOrd, Ord, Hash)]
@@ -97,6 +99,8 @@ impl fmt::Display for NotConverted {
         match (from, answer) {
             (Edition::Two, Answer::BadFirstByte) => f.write_str("the first byte is above 3"),
             (Edition::Three, Answer::BadFirstByte) => f.write_str("the first byte is not 0xE3"),
+            // What one edition has not cannot be converted from the other.
+            (_, Answer::NoKind) => f.write_str("the kind is not 1 to 17"),
             _ => write!(f, "{answer}"),
         }
     }

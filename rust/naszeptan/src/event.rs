@@ -1,4 +1,4 @@
-//! The seventeen events.
+//! The nineteen events.
 
 use std::fmt;
 
@@ -24,6 +24,10 @@ use crate::{Answer, Edition, Kind};
 /// assert_eq!(Event::Std { ra: 3, index: 17 }.to_string(), "std r3, 17");
 /// assert_eq!(Event::Mtspr { spr: 130, ra: 4 }.to_string(), "mtspr 130, r4");
 /// assert_eq!(Event::Addi { rt: 3, ra: 0, si: 0xFFFF }.to_string(), "addi r3, 0, -1");
+/// assert_eq!(
+///     Event::Mtmsrd { ts: 2, tm: true, pr: false }.to_string(),
+///     "mtmsrd TS=10, TM=1, PR=0"
+/// );
 /// assert_eq!(Event::Std { ra: 3, index: 17 }.kind(), 13);
 /// ```
 #[derive(Clone, Copy, Debug, PartialEq, Eq, Hash)]
@@ -80,18 +84,20 @@ pub enum Event {
     },
     /// 9: makes the live registers a checkpoint, Suspended; privileged.
     Trechkpt,
-    /// 10: register RA goes to TFHAR, TFIAR, TEXASR or its upper half.
+    /// 10: register RA goes to TFHAR, TFIAR, TEXASR or its upper half, or to
+    /// SRR0 or SRR1, which is privileged.
     Mtspr {
-        /// SPR, 128 to 131.
+        /// SPR, 128 to 131, 26 or 27.
         spr: u8,
         /// RA.
         ra: u8,
     },
-    /// 11: TFHAR, TFIAR, TEXASR or its upper half goes to register RT.
+    /// 11: TFHAR, TFIAR, TEXASR or its upper half goes to register RT, or SRR0
+    /// or SRR1 does, which is privileged.
     Mfspr {
         /// RT.
         rt: u8,
-        /// SPR, 128 to 131.
+        /// SPR, 128 to 131, 26 or 27.
         spr: u8,
     },
     /// 12: loads a doubleword.
@@ -119,7 +125,8 @@ pub enum Event {
     },
     /// 15: an instruction that a transaction does not allow.
     Disallowed,
-    /// 16: an interrupt is taken.
+    /// 16: an interrupt is taken: SRR0 and SRR1 keep where the thread was, and
+    /// it goes on at 0x500, privileged, T suspended and the facility off.
     Interrupt,
     /// 17: the host sets PR and TM.
     Host {
@@ -128,12 +135,60 @@ pub enum Event {
         /// TM.
         tm: bool,
     },
+    /// 18: returns from an interrupt to SRR0, with the state, TM and PR that
+    /// SRR1 asks for; privileged. docs/RULES.md, E0.11, has what may be asked.
+    /// A suspended transaction that has failed is handled where T is asked.
+    Rfid,
+    /// 19: asks for a state, TM and PR as [`Event::Rfid`] does, and goes on
+    /// behind itself; privileged.
+    Mtmsrd {
+        /// TS, a number of two bits: 0 is N, 1 is S, 2 is T, and 3 is no state.
+        /// Higher bits do not count.
+        ts: u8,
+        /// TM.
+        tm: bool,
+        /// PR.
+        pr: bool,
+    },
 }
 
 impl Event {
-    /// The number of the event's kind, 1 to 17. [`Kind::of`] gives its row.
+    /// The number of the event's kind, 1 to 19. [`Kind::of`] gives its row.
     pub const fn kind(self) -> u8 {
         self.to_raw(0).kind
+    }
+
+    /// Whether it is a TM instruction, which 11 refuses where TM = 0
+    /// (docs/RULES.md, E0.6). mtspr and mfspr are, but for SRR0 and SRR1.
+    ///
+    /// ```
+    /// use naszeptan::{Event, SPR_SRR0, SPR_TFHAR};
+    ///
+    /// let get = |spr| Event::Mfspr { rt: 3, spr };
+    /// assert!(get(SPR_TFHAR).is_tm() && !get(SPR_TFHAR).is_privileged());
+    /// assert!(!get(SPR_SRR0).is_tm() && get(SPR_SRR0).is_privileged());
+    /// assert!(!Event::Rfid.is_tm() && Event::Rfid.is_privileged());
+    /// assert!(Event::Trechkpt.is_tm() && Event::Trechkpt.is_privileged());
+    /// assert!(!Event::Ld { rt: 3, index: 0 }.is_tm());
+    /// ```
+    pub fn is_tm(self) -> bool {
+        match self {
+            Event::Mtspr { spr, .. } | Event::Mfspr { spr, .. } => !is_srr(spr),
+            _ => self.row().tm,
+        }
+    }
+
+    /// Whether it is a privileged instruction, which 12 refuses where PR = 1
+    /// (docs/RULES.md, E0.6). Of mtspr and mfspr those of SRR0 and SRR1 are.
+    pub fn is_privileged(self) -> bool {
+        match self {
+            Event::Mtspr { spr, .. } | Event::Mfspr { spr, .. } => is_srr(spr),
+            _ => self.row().privileged,
+        }
+    }
+
+    fn row(self) -> &'static Kind {
+        Kind::of(self.kind()).expect("each kind has a row")
     }
 
     /// The event as the C header has it, for a thread.
@@ -156,6 +211,11 @@ impl Event {
             Event::Disallowed => (15, 0, 0, 0, 0, 0, 0),
             Event::Interrupt => (16, 0, 0, 0, 0, 0, 0),
             Event::Host { pr, tm } => (17, 0, 0, 0, pr as u8 + 2 * tm as u8, 0, 0),
+            Event::Rfid => (18, 0, 0, 0, 0, 0, 0),
+            Event::Mtmsrd { ts, tm, pr } => {
+                let flags = (ts & 3) + 4 * tm as u8 + 8 * pr as u8;
+                (19, 0, 0, 0, flags, 0, 0)
+            }
         };
         raw::Event {
             kind,
@@ -207,6 +267,12 @@ impl Event {
                 pr: flag,
                 tm: flags & 2 != 0,
             },
+            18 => Event::Rfid,
+            19 => Event::Mtmsrd {
+                ts: flags & 3,
+                tm: flags & 4 != 0,
+                pr: flags & 8 != 0,
+            },
             _ => return Err(Answer::NoKind),
         };
         Ok((thread, event))
@@ -232,7 +298,8 @@ impl Event {
     /// The record of this edition that the event by this thread has.
     ///
     /// Edition three has one for every event by any thread. Edition two has
-    /// none for a thread above 3, which is [`Answer::NoThread`].
+    /// none for a thread above 3, which is [`Answer::NoThread`], nor for a kind
+    /// above 17, which is [`Answer::NoKind`].
     pub fn write_in(self, edition: Edition, thread: u8) -> Result<[u8; RECORD_SIZE], Answer> {
         let (event, mut record) = (self.to_raw(thread), [0; RECORD_SIZE]);
         let answer = match edition {
@@ -248,9 +315,11 @@ impl Event {
 
 impl fmt::Display for Event {
     fn fmt(&self, f: &mut fmt::Formatter<'_>) -> fmt::Result {
-        let fields = self.to_raw(0);
-        Kind::of(fields.kind)
-            .expect("each kind has a row")
-            .show(fields, f)
+        self.row().show(self.to_raw(0), f)
     }
+}
+
+/// Whether an SPR is SRR0 or SRR1.
+fn is_srr(spr: u8) -> bool {
+    matches!(spr, raw::SPR_SRR0 | raw::SPR_SRR1)
 }

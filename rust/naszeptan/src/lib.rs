@@ -108,7 +108,7 @@ pub use raw::{version, Entry, Lines as LineSet, Registers, Transaction};
 pub use raw::{
     FIRST_BYTE, GPRS, HELD, LEVELS, LINE, MEMORY, PLACES, RECORD_SIZE, THREADS, VERSION,
 };
-pub use raw::{SPR_TEXASR, SPR_TEXASRU, SPR_TFHAR, SPR_TFIAR};
+pub use raw::{SPR_SRR0, SPR_SRR1, SPR_TEXASR, SPR_TEXASRU, SPR_TFHAR, SPR_TFIAR};
 pub use session::{Answers, Session, PIECE};
 pub use tape::{Records, Tape};
 pub use texasr::{Cause, Failure, Texasr};

@@ -36,6 +36,11 @@ pub struct Control {
     pub tfiar: u64,
     /// Why it failed.
     pub texasr: Texasr,
+    /// SRR0: where an interrupt came, and where rfid goes on.
+    pub srr0: u64,
+    /// SRR1: TS, TM and PR as an interrupt met them, and as rfid asks for them
+    /// (docs/RULES.md, M15).
+    pub srr1: u64,
 }
 
 /// One thread's record. The default is the record of a thread that is not
@@ -48,7 +53,7 @@ pub struct Thread {
     pub cr0: u8,
     /// The checkpoint.
     pub checkpoint: Registers,
-    /// NIA, PR, TM, state, TDOOMED and the three special registers.
+    /// NIA, PR, TM, state, TDOOMED and the five special registers.
     pub control: Control,
     /// Read set, write set and log.
     pub transaction: Transaction,
@@ -142,9 +147,9 @@ impl Machine {
     /// event and is not after it, unless it is the thread's own commit.
     ///
     /// A failure recorded in Suspended state is so told twice, when it is
-    /// recorded and when tresume handles it; a tresume after trechkpt. that
-    /// handles is told too. treclaim. of a live transaction is told, and of a
-    /// doomed one not.
+    /// recorded and when tresume, rfid or mtmsrd handles it; one of these after
+    /// trechkpt. that handles is told too. treclaim. of a live transaction is
+    /// told, and of a doomed one not.
     ///
     /// ```
     /// use naszeptan::{Answer, Event, Machine};
@@ -291,6 +296,8 @@ impl From<&Control> for raw::Control {
             tfhar: from.tfhar,
             tfiar: from.tfiar,
             texasr: from.texasr.0,
+            srr0: from.srr0,
+            srr1: from.srr1,
         }
     }
 }
@@ -308,6 +315,8 @@ impl TryFrom<&raw::Control> for Control {
             tfhar: from.tfhar,
             tfiar: from.tfiar,
             texasr: Texasr(from.texasr),
+            srr0: from.srr0,
+            srr1: from.srr1,
         })
     }
 }

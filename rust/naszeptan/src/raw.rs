@@ -47,7 +47,11 @@ pub const FIRST_BYTE: u8 = 0xE3;
 /// The most bytes of an unfinished record, which a session holds.
 pub const HELD: usize = 15;
 
-/// TFHAR's number for mtspr and mfspr.
+/// SRR0's number for mtspr and mfspr.
+pub const SPR_SRR0: u8 = 26;
+/// SRR1's.
+pub const SPR_SRR1: u8 = 27;
+/// TFHAR's.
 pub const SPR_TFHAR: u8 = 128;
 /// TFIAR's.
 pub const SPR_TFIAR: u8 = 129;
@@ -59,7 +63,7 @@ pub const SPR_TEXASRU: u8 = 131;
 /// The version of the rules that this crate was written for: the model's
 /// version in the upper 16 bits, the change requests that have landed in the
 /// lower. [`version`] gives the archive's.
-pub const VERSION: u32 = 0x0004_0007;
+pub const VERSION: u32 = 0x0004_0008;
 
 /// The registers that a checkpoint keeps.
 #[repr(C)]
@@ -151,6 +155,11 @@ pub struct Control {
     pub tfiar: u64,
     /// TEXASR, its bit 0 the highest of the 64.
     pub texasr: u64,
+    /// SRR0: where an interrupt came, and where rfid goes on.
+    pub srr0: u64,
+    /// SRR1: TS, TM and PR as an interrupt met them, and as rfid asks for them
+    /// (docs/RULES.md, M15).
+    pub srr1: u64,
 }
 
 /// One thread's record.
@@ -163,7 +172,7 @@ pub struct Thread {
     pub cr0: u8,
     /// The checkpoint, which has no CR0.
     pub checkpoint: Registers,
-    /// NIA, PR, TM, state, TDOOMED and the three special registers.
+    /// NIA, PR, TM, state, TDOOMED and the five special registers.
     pub control: Control,
     /// Read set, write set and log.
     pub transaction: Transaction,
@@ -179,7 +188,7 @@ pub struct Machine {
     pub threads: [Thread; THREADS],
 }
 
-/// One event and the thread that executes it. `kind`, 1 to 17, says what the
+/// One event and the thread that executes it. `kind`, 1 to 19, says what the
 /// other fields mean; a field that its kind does not use must be 0.
 #[repr(C)]
 #[derive(Clone, Copy, Debug, Default, PartialEq, Eq, Hash)]
@@ -194,7 +203,7 @@ pub struct Event {
     pub ra: u8,
     /// RB.
     pub rb: u8,
-    /// R, A or L; for kind 17, PR + 2 * TM.
+    /// R, A or L; for kind 17, PR + 2 * TM; for kind 19, TS + 4 * TM + 8 * PR.
     pub flags: u8,
     /// The doubleword of a load or store.
     pub index: u32,

@@ -3,7 +3,7 @@
 use std::fmt::{self, Display};
 
 use crate::raw::{Entry, Lines, Registers, Transaction, PLACES};
-use crate::{Machine, Thread};
+use crate::{Control, Machine, Thread};
 
 /// What is not zero: a line or a few for each thread. `{:?}` has every field.
 ///
@@ -44,6 +44,7 @@ impl fmt::Display for Thread {
         row(f, "", &registers(&self.live))?;
         row(f, "checkpoint: ", &registers(&self.checkpoint))?;
         row(f, "", &failure(self))?;
+        row(f, "", &saved(&self.control))?;
         row(f, "", &transaction(&self.transaction))
     }
 }
@@ -78,6 +79,33 @@ fn failure(thread: &Thread) -> Vec<String> {
         parts.push(format!("TEXASR 0x{:016X} ({texasr})", texasr.0));
     }
     parts
+}
+
+/// What an interrupt has saved. What SRR1 asks for stands in words beside it.
+fn saved(control: &Control) -> Vec<String> {
+    let mut parts = Vec::new();
+    if control.srr0 != 0 {
+        parts.push(format!("SRR0 0x{:X}", control.srr0));
+    }
+    if control.srr1 != 0 {
+        let srr1 = control.srr1;
+        parts.push(format!("SRR1 0x{srr1:016X} ({})", asked(srr1)));
+    }
+    parts
+}
+
+/// The state, PR and TM that a value of SRR1 asks for (docs/RULES.md, M15).
+fn asked(srr1: u64) -> String {
+    let bit = |n: u32| srr1 >> (63 - n) & 1 != 0;
+    let state = match (bit(29), bit(30)) {
+        (false, false) => "N",
+        (false, true) => "S",
+        (true, false) => "T",
+        (true, true) => "no state",
+    };
+    let flags = [(bit(49), " PR"), (bit(31), " TM")];
+    let set = flags.into_iter().filter(|(set, _)| *set);
+    state.to_string() + &set.map(|(_, name)| name).collect::<String>()
 }
 
 fn transaction(transaction: &Transaction) -> Vec<String> {

@@ -1,4 +1,5 @@
-//! The bench values of docs/RULES.md, K1 to K10, through the archive.
+//! The bench values of docs/RULES.md, K1 to K10 and K14 to K18, through the
+//! archive.
 
 use naszeptan::{Answer, Event, Machine, State, LEVELS, LINE, MEMORY};
 
@@ -149,4 +150,95 @@ fn k10_word_and_doubleword() {
     desk.step(0, BEGIN, Answer::Done);
     desk.step(0, Event::Tabortdc { to, ra, rb }, Answer::Done);
     desk.step(0, Event::Tabortwc { to, ra, rb }, Answer::Handled);
+}
+
+impl Desk {
+    /// tbegin. at 0x1000, the events, and an interrupt.
+    fn interrupted(events: &[Event]) -> Desk {
+        let mut desk = Desk::new();
+        desk.step(0, BEGIN, Answer::Done);
+        for &event in events {
+            desk.step(0, event, Answer::Done);
+        }
+        desk.step(0, Event::Interrupt, Answer::Done);
+        desk
+    }
+
+    /// Thread 0's state, PR, TM and NIA.
+    fn at(&self) -> (State, bool, bool, u64) {
+        let control = &self.machine.threads[0].control;
+        (control.state, control.pr, control.tm, control.nia)
+    }
+}
+
+/// By the flags of its record.
+fn mtmsrd(flags: u8) -> Event {
+    Event::Mtmsrd {
+        ts: flags & 3,
+        tm: flags & 4 != 0,
+        pr: flags & 8 != 0,
+    }
+}
+
+#[test]
+fn k14_an_interrupt_and_back() {
+    let mut desk = Desk::interrupted(&[]);
+    let control = &desk.machine.threads[0].control;
+    assert_eq!(
+        (control.srr0, control.srr1),
+        (0x1004, 0x0000_0005_0000_4000)
+    );
+    assert_eq!(desk.at(), (State::S, false, false, 0x500));
+    desk.step(0, Event::Rfid, Answer::Done);
+    assert_eq!(desk.at(), (State::T, true, true, 0x1004));
+    assert_eq!(desk.machine.threads[0].cr0, 0b0000);
+}
+
+#[test]
+fn k15_doomed_meanwhile() {
+    let mut desk = Desk::interrupted(&[Event::Ld { rt: 3, index: 17 }]);
+    desk.step(1, Event::Std { ra: 0, index: 17 }, Answer::Done);
+    assert_eq!(desk.texasr(), 0x0008_0000_8800_0001);
+    assert_eq!(desk.machine.threads[0].control.tfiar, 0x500);
+    desk.step(0, Event::Rfid, Answer::Handled);
+    assert_eq!(desk.at(), (State::N, true, true, 0x1004));
+    assert_eq!(desk.machine.threads[0].control.tfhar, 0x1004);
+    assert_eq!(desk.machine.threads[0].cr0, 0b1010);
+}
+
+#[test]
+fn k16_in_t() {
+    for event in [Event::Rfid].into_iter().chain((0..16).map(mtmsrd)) {
+        let mut desk = Desk::privileged();
+        desk.step(0, BEGIN, Answer::Done);
+        desk.step(0, event, Answer::Handled);
+        assert_eq!(desk.texasr(), 0x0080_0000_0C00_0001);
+    }
+}
+
+#[test]
+fn k17_what_is_saved() {
+    let mut desk = Desk::new();
+    desk.step(0, BEGIN, Answer::Done);
+    desk.step(0, Event::Tsr { l: false }, Answer::Done);
+    desk.step(0, Event::Interrupt, Answer::Done);
+    assert_eq!(desk.machine.threads[0].control.srr1, 0x0000_0003_0000_4000);
+    let mut desk = Desk::privileged();
+    desk.machine.threads[0].control.tm = false;
+    desk.machine.threads[0].control.srr1 = u64::MAX;
+    desk.step(0, Event::Interrupt, Answer::Done);
+    assert_eq!(desk.machine.threads[0].control.srr1, 0);
+}
+
+#[test]
+fn k18_s_is_asked_for_n() {
+    for (tm, answer, pr) in [(false, Answer::Done, true), (true, Answer::BadThing, false)] {
+        let mut desk = Desk::privileged();
+        desk.step(0, BEGIN, Answer::Done);
+        desk.step(0, Event::Tsr { l: false }, Answer::Done);
+        desk.machine.threads[0].control.tm = tm;
+        desk.step(0, mtmsrd(8), answer);
+        let (state, is_pr, is_tm, _) = desk.at();
+        assert_eq!((state, is_pr, is_tm), (State::S, pr, tm));
+    }
 }

@@ -4,7 +4,7 @@
 use std::collections::HashSet;
 
 use naszeptan::{raw, Answer, Ended, Event, Machine, State, Tape, Texasr, LEVELS, MEMORY, VERSION};
-use naszeptan::{SPR_TEXASR, SPR_TEXASRU, SPR_TFHAR, SPR_TFIAR};
+use naszeptan::{SPR_SRR0, SPR_SRR1, SPR_TEXASR, SPR_TEXASRU, SPR_TFHAR, SPR_TFIAR};
 
 /// Steps a clone, which must be left as it was.
 fn refused(machine: &Machine, len: usize, thread: u8, event: Event, answer: Answer) {
@@ -98,6 +98,9 @@ fn refusals_of_operands() {
         Event::Std { ra: 32, index: 0 },
         Event::Mfspr { rt: 0, spr: 132 },
         Event::Mtspr { spr: 127, ra: 0 },
+        Event::Mtspr { spr: 25, ra: 0 },
+        Event::Mfspr { rt: 0, spr: 28 },
+        Event::Mfspr { rt: 32, spr: 26 },
     ];
     for event in out_of_range {
         refused(&Machine::fresh(), 16, 0, event, Answer::Operand);
@@ -137,7 +140,7 @@ const UNUSED_SET: raw::Event = raw::Event {
 #[test]
 fn raw_events_that_are_none() {
     let step = |event| raw::step(raw::fresh(), &mut [5; 16], event).answer;
-    for kind in [0, 18, 255] {
+    for kind in [0, 20, 255] {
         assert_eq!(step(raw::Event { kind, ..UNUSED_SET }), 8);
     }
     assert_eq!(step(UNUSED_SET), 9);
@@ -337,15 +340,65 @@ fn special_registers() {
     control.tfhar = 0x10;
     control.tfiar = 0x21;
     control.texasr = Texasr(0x0008_0000_1800_0001);
+    control.srr0 = 0x1003;
+    control.srr1 = u64::MAX - 7;
     let texasr = control.texasr.0;
     for (spr, value) in [
         (SPR_TFHAR, 0x10),
         (SPR_TFIAR, 0x21),
         (SPR_TEXASR, texasr),
         (SPR_TEXASRU, texasr >> 32),
+        (SPR_SRR0, 0x1003),
+        (SPR_SRR1, u64::MAX - 7),
     ] {
-        let answer = machine.step(&mut memory, 0, Event::Mfspr { rt: 9, spr });
+        let get = Event::Mfspr { rt: 9, spr };
+        machine.threads[0].control.pr = !get.is_privileged();
+        let answer = machine.step(&mut memory, 0, get);
         assert_eq!(answer, Answer::Done);
         assert_eq!(machine.threads[0].live.gpr[9], value);
+    }
+}
+
+/// SRR0 and SRR1 are privileged, and no part of the facility; mtspr of them is
+/// a Bad Thing in T (docs/RULES.md, E10 and E11).
+#[test]
+fn srr0_and_srr1() {
+    for spr in [SPR_SRR0, SPR_SRR1] {
+        let (set, get) = (Event::Mtspr { spr, ra: 3 }, Event::Mfspr { rt: 3, spr });
+        for tm in [false, true] {
+            let (mut machine, mut memory) = begun();
+            machine.threads[0].control.tm = tm;
+            refused(&machine, 16, 0, set, Answer::Privileged);
+            refused(&machine, 16, 0, get, Answer::Privileged);
+            machine.threads[0].control.pr = false;
+            refused(&machine, 16, 0, set, Answer::BadThing);
+            assert_eq!(machine.step(&mut memory, 0, get), Answer::Done);
+            machine.threads[0].control.state = State::S;
+            machine.threads[0].live.gpr[3] = 0x1003;
+            assert_eq!(machine.step(&mut memory, 0, set), Answer::Done);
+            let control = &machine.threads[0].control;
+            let value = match spr {
+                SPR_SRR0 => control.srr0,
+                _ => control.srr1,
+            };
+            assert_eq!(value, 0x1003);
+        }
+    }
+}
+
+/// A record past the count has zeros in SRR0 and SRR1; in a thread they may be
+/// anything.
+#[test]
+fn srr0_and_srr1_of_a_valid_machine() {
+    let mut machine = Machine::fresh();
+    machine.count = 3;
+    machine.threads[3] = Default::default();
+    machine.threads[2].control.srr0 = u64::MAX;
+    machine.threads[2].control.srr1 = u64::MAX;
+    assert_eq!(machine.valid(16), Ok(()));
+    for (srr0, srr1) in [(1, 0), (0, 1), (1 << 63, 0), (0, 1 << 63)] {
+        let control = &mut machine.threads[3].control;
+        (control.srr0, control.srr1) = (srr0, srr1);
+        assert_eq!(machine.valid(16), Err(Answer::NoMachine));
     }
 }

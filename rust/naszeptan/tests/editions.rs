@@ -6,7 +6,7 @@ use naszeptan::{raw, Answer, Edition, Event, NotConverted, Tape};
 const TWO: [u8; 16] = [0, 0x0D, 0, 3, 0, 0, 0, 0, 0x11, 0, 0, 0, 0, 0, 0, 0];
 const THREE: [u8; 16] = [0xE3, 0x0D, 0, 0, 3, 0, 0, 0, 0, 0, 0, 0x11, 0, 0, 0, 0];
 
-/// An event of each kind, whose operands are told from one another.
+/// An event of each kind that both have, whose operands are told from one another.
 #[rustfmt::skip]
 const EACH: [Event; 17] = [
     Event::Tbegin { r: true },
@@ -18,7 +18,7 @@ const EACH: [Event; 17] = [
     Event::Tcheck { bf: 255 },
     Event::Treclaim { ra: 8 },
     Event::Trechkpt,
-    Event::Mtspr { spr: 128, ra: 9 },
+    Event::Mtspr { spr: 26, ra: 9 },
     Event::Mfspr { rt: 10, spr: 131 },
     Event::Ld { rt: 11, index: 0x0102_0304 },
     Event::Std { ra: 12, index: u32::MAX - 1 },
@@ -65,6 +65,39 @@ fn threads_above_3() {
     }
 }
 
+/// Edition two has no kind above 17. A thread that it has not is told before.
+#[test]
+fn kinds_above_17() {
+    let (tm, pr) = (true, false);
+    for event in [Event::Rfid, Event::Mtmsrd { ts: 2, tm, pr }] {
+        assert_eq!(event.write_in(Edition::Two, 3), Err(Answer::NoKind));
+        assert_eq!(event.write_in(Edition::Two, 4), Err(Answer::NoThread));
+        let three = event.write_in(Edition::Three, 3).unwrap();
+        assert_eq!(refused(&three, Edition::Three).answer, Answer::NoKind);
+        let fields = event.to_raw(3);
+        assert_eq!(raw::write_two(fields, &mut [0; 15]), 8);
+        let two = [
+            3,
+            fields.kind,
+            0,
+            0,
+            0,
+            fields.flags,
+            0,
+            0,
+            0,
+            0,
+            0,
+            0,
+            0,
+            0,
+            0,
+            0,
+        ];
+        assert_eq!(raw::read_two(&two).answer, 8);
+    }
+}
+
 #[test]
 fn reader() {
     let zero = raw::Event::default();
@@ -96,7 +129,7 @@ fn writer() {
     let store = Event::Std { ra: 3, index: 17 }.to_raw(0);
     let far = raw::Event { thread: 4, ..store };
     let unused = raw::Event { rb: 1, ..far };
-    let none = raw::Event { kind: 18, ..unused };
+    let none = raw::Event { kind: 20, ..unused };
     for len in [0, 15, 16, 20] {
         let mut buffer = [0xAA; 20];
         assert_eq!(raw::write_two(none, &mut buffer[..len]), 8);
@@ -130,6 +163,7 @@ fn refusals_have_a_number_and_an_index() {
         (with(THREE, 2, 4), Answer::NoThread),
         (TWO, Answer::BadFirstByte),
         (with(THREE, 1, 0), Answer::NoKind),
+        (with(THREE, 1, 20), Answer::NoKind),
         (with(THREE, 15, 1), Answer::Field),
     ] {
         for index in 0..2 {

@@ -1,5 +1,7 @@
 //! The examples write what is stored.
 
+#[path = "../examples/interrupt.rs"]
+mod interrupt;
 #[path = "../examples/retry.rs"]
 mod retry;
 
@@ -7,4 +9,10 @@ mod retry;
 #[test]
 fn the_retry_policy() {
     assert_eq!(retry::report(), include_str!("../../../c/retry.txt"));
+}
+
+#[test]
+fn an_interrupt_in_a_transaction() {
+    let stored = include_str!("../examples/interrupt.txt");
+    assert_eq!(interrupt::report(), stored);
 }

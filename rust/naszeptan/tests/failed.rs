@@ -151,3 +151,23 @@ fn a_set_by_its_members() {
     assert_eq!((none.bits(), none.len(), none.is_empty()), (0, 0, true));
     assert_eq!(none, ThreadSet::default());
 }
+
+/// rfid and mtmsrd tell what fails in T, and what they handle.
+#[test]
+fn rfid_and_mtmsrd() {
+    let (ts, tm, pr) = (2, true, false);
+    for event in [Event::Rfid, Event::Mtmsrd { ts, tm, pr }] {
+        let mut desk = Desk::new();
+        desk.spares(0, TBEGIN)
+            .fails(0, event, Answer::Handled, &[0]);
+        desk.spares(0, TBEGIN)
+            .spares(0, load(0))
+            .spares(0, Event::Interrupt);
+        desk.fails(1, store(0), Answer::Done, &[0]);
+        desk.fails(0, event, Answer::Handled, &[0]);
+        let mut desk = Desk::new();
+        desk.spares(0, TBEGIN)
+            .spares(0, Event::Interrupt)
+            .spares(0, event);
+    }
+}

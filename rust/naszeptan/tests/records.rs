@@ -2,20 +2,26 @@
 
 use std::collections::HashSet;
 
-use naszeptan::{raw, Event, Tape};
+use naszeptan::{raw, Edition, Event, Tape};
 
 /// The ends of the ranges of register, BF, TO and SPR, and beyond.
-const BYTES: [u8; 7] = [0, 1, 7, 31, 32, 128, 255];
+const BYTES: [u8; 8] = [0, 1, 7, 26, 31, 32, 128, 255];
 
 /// Events that have flags or no operand, all of them.
 fn flagged() -> Vec<Event> {
-    let mut all = vec![Event::Trechkpt, Event::Disallowed, Event::Interrupt];
+    let mut all = vec![
+        Event::Trechkpt,
+        Event::Disallowed,
+        Event::Interrupt,
+        Event::Rfid,
+    ];
     for flag in [false, true] {
         all.push(Event::Tbegin { r: flag });
         all.push(Event::Tend { a: flag });
         all.push(Event::Tsr { l: flag });
         for tm in [false, true] {
             all.push(Event::Host { pr: flag, tm });
+            all.extend((0..4).map(|ts| Event::Mtmsrd { ts, tm, pr: flag }));
         }
     }
     all
@@ -71,7 +77,24 @@ fn no_two_events_look_alike() {
     let texts: HashSet<_> = all.iter().map(Event::to_string).collect();
     assert_eq!(texts.len(), all.len());
     let kinds: HashSet<_> = all.iter().map(|event| event.kind()).collect();
-    assert_eq!(kinds, (1..=17).collect());
+    assert_eq!(kinds, (1..=19).collect());
+}
+
+/// TS + 4 x TM + 8 x PR; of a TS above 3 the two low bits count.
+#[test]
+fn flags_of_mtmsrd() {
+    for (ts, tm, pr, flags) in [
+        (1, false, false, 1),
+        (2, true, false, 6),
+        (0, false, true, 8),
+        (3, true, true, 15),
+        (6, true, false, 6),
+    ] {
+        let event = Event::Mtmsrd { ts, tm, pr };
+        assert_eq!(event.to_raw(0).flags, flags);
+        let right = [0xE3, 19, 0, 0, 0, 0, flags, 0, 0, 0, 0, 0, 0, 0, 0, 0];
+        assert_eq!(event.write_in(Edition::Three, 0), Ok(right));
+    }
 }
 
 #[test]
@@ -139,7 +162,7 @@ fn raw_events() -> Vec<raw::Event> {
         all.push(raw::Event { rb: 1, ..none });
         all.push(raw::Event { index: 1, ..none });
         all.push(raw::Event { si: 1, ..none });
-        for flags in [1, 2, 3, 4, 255] {
+        for flags in [1, 2, 3, 4, 8, 15, 16, 255] {
             all.push(raw::Event { flags, ..none });
         }
     }

@@ -88,6 +88,8 @@ fn changed(thread: &Thread) -> Vec<Thread> {
     with(&|t| t.control.tfhar ^= 1 << 63);
     with(&|t| t.control.tfiar ^= 1 << 63);
     for n in 0..64 {
+        with(&|t| t.control.srr0 ^= 1 << n);
+        with(&|t| t.control.srr1 ^= 1 << n);
         with(&|t| t.control.texasr = Texasr(t.control.texasr.0 ^ 1 << n));
         with(&|t| t.transaction.reads.words[n / 16] ^= 1 << n);
         with(&|t| t.transaction.writes.words[n / 16] ^= 1 << n);
@@ -133,6 +135,31 @@ fn used_places_are_counted() {
     assert_eq!(thread.to_string(), "N\n    log of 1: 0=0x0");
     thread.transaction.log[1] = Entry { index: 5, value: 6 };
     assert_eq!(thread.to_string(), "N\n    log of 1: 0=0x0 5=0x6");
+}
+
+/// SRR1 with what it asks for.
+#[test]
+fn what_an_interrupt_saved() {
+    let (mut machine, mut memory) = (Machine::fresh(), [0; 16]);
+    for event in [Event::Tbegin { r: false }, Event::Interrupt] {
+        assert!(machine.step(&mut memory, 0, event).is_done());
+    }
+    let expected = "\
+S, NIA 0x500
+    TFHAR 0x4, TEXASR 0x0000000000000001 (no failure, level 1, ROT=0)
+    SRR0 0x4, SRR1 0x0000000500004000 (T PR TM)";
+    assert_eq!(machine.threads[0].to_string(), expected);
+    let mut thread = Thread::default();
+    for (srr1, words) in [
+        (0x0000_0002_0000_0000, "S"),
+        (0x0000_0006_0000_0000, "no state"),
+        (0x0000_0001_0000_0000, "N TM"),
+        (0x8000_0000_0000_4001, "N PR"),
+    ] {
+        thread.control.srr1 = srr1;
+        let expected = format!("N\n    SRR1 0x{srr1:016X} ({words})");
+        assert_eq!(thread.to_string(), expected);
+    }
 }
 
 #[test]

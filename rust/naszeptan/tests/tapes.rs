@@ -222,6 +222,11 @@ fn ragged() {
 }
 
 #[test]
+fn returns() {
+    hold("returns");
+}
+
+#[test]
 fn too_long() {
     hold("too_long");
 }

@@ -136,7 +136,7 @@ impl Day {
             if t.state != State::N && self.rng.one_in(3) {
                 worker.plan = system::reclaim(thread).into();
             } else {
-                let pause = system::pause(thread, t.state);
+                let pause = system::pause(thread, t.state, self.rng.flag());
                 worker.plan = pause.into_iter().chain(worker.plan.drain(..)).collect();
             }
         }

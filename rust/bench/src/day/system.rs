@@ -11,6 +11,12 @@ const USED: [u8; 3] = [10, 11, 12];
 /// TFHAR, TFIAR, TEXASR.
 const SPECIAL: [u8; 3] = [128, 129, 130];
 
+/// The facility on, in the system and still suspended.
+const FACILITY: Event = Event::Mtmsrd {
+    ts: 1,
+    tm: true,
+    pr: false,
+};
 /// Back to the program, with the facility on.
 const RETURN: Event = Event::Host { pr: true, tm: true };
 
@@ -19,8 +25,9 @@ fn saved(thread: usize, place: usize) -> u32 {
 }
 
 /// A short interrupt, after which the program goes on where it was. It came in
-/// this state; a transaction is suspended meanwhile.
-pub fn pause(thread: usize, state: State) -> Vec<Event> {
+/// this state; a transaction is suspended meanwhile. The way back is rfid, or the
+/// host's.
+pub fn pause(thread: usize, state: State, by_rfid: bool) -> Vec<Event> {
     let index = saved(thread, 0);
     let mut events = vec![
         Event::Interrupt,
@@ -31,8 +38,12 @@ pub fn pause(thread: usize, state: State) -> Vec<Event> {
             si: 1,
         },
         Event::Ld { rt: 16, index },
-        RETURN,
     ];
+    if by_rfid {
+        events.push(Event::Rfid);
+        return events;
+    }
+    events.push(RETURN);
     if state == State::T {
         events.push(Event::Tsr { l: true });
     }
@@ -44,14 +55,7 @@ pub fn pause(thread: usize, state: State) -> Vec<Event> {
 /// comes back to a transaction that has failed.
 pub fn reclaim(thread: usize) -> Vec<Event> {
     let places = || USED.into_iter().zip(SPECIAL).enumerate();
-    let mut events = vec![
-        Event::Interrupt,
-        Event::Host {
-            pr: false,
-            tm: true,
-        },
-        Event::Treclaim { ra: 0 },
-    ];
+    let mut events = vec![Event::Interrupt, FACILITY, Event::Treclaim { ra: 0 }];
     for (place, (r, spr)) in places() {
         let index = saved(thread, place);
         events.extend([Event::Mfspr { rt: r, spr }, Event::Std { ra: r, index }]);

@@ -15,7 +15,7 @@ const CALLS: usize = 4;
 /// How many kinds edition two has.
 const KINDS: usize = LAST_KIND as usize;
 /// Places for the situations of one call.
-const MOST: usize = 16;
+const MOST: usize = 20;
 /// A table shows the numbers below this.
 const SHOWN: u8 = 14;
 
@@ -104,11 +104,14 @@ const READ: [Situation; 13] = [
 ];
 
 #[rustfmt::skip]
-const WRITE: [Situation; 9] = [
+const WRITE: [Situation; 12] = [
     ("by the last thread", |v| v.answer == 0 && v.bytes[2] == LAST_THREAD),
     ("into 16 bytes", |v| v.answer == 0 && v.room == 16),
     ("into more than 16 bytes", |v| v.answer == 0 && v.room > 16),
-    ("8 before 3", |v| v.answer == 8 && v.bytes[2] > LAST_THREAD),
+    ("8 of no kind, before 3", |v| v.answer == 8 && v.bytes[2] > LAST_THREAD),
+    ("8 of a kind after the last", |v| v.answer == 8 && is_later(v.bytes)),
+    ("8 of a kind after the last, before 10", |v| v.answer == 8 && is_later(v.bytes) && v.room < 16),
+    ("3 before 8 of a kind after the last", |v| v.answer == 3 && is_later(v.bytes)),
     ("9 before 3", |v| v.answer == 9 && v.bytes[2] > LAST_THREAD),
     ("3 by the thread after the last", |v| v.answer == 3 && v.bytes[2] == LAST_THREAD + 1),
     ("3 before 10", |v| v.answer == 3 && v.room < 16),
@@ -136,7 +139,9 @@ const CONVERT: [Situation; 15] = [
 ];
 
 #[rustfmt::skip]
-const FROM_THREE: [Situation; 1] = [
+const FROM_THREE: [Situation; 3] = [
+    ("8 of a kind that edition two has not", |v| v.answer == 8 && v.index > 0 && is_later(&v.bytes[16 * v.index..][..16])),
+    ("3 before 8 of such a kind", |v| v.answer == 3 && is_later(&v.bytes[16 * v.index..][..16])),
     ("9 before 3", |v| v.answer == 9 && v.bytes[16 * v.index + 2] > LAST_THREAD),
 ];
 
@@ -146,6 +151,12 @@ const _: () = assert!(CONVERT.len() + FROM_THREE.len() <= MOST);
 
 fn is_good(record: &[u8]) -> bool {
     Edition::Two.read(record).is_ok()
+}
+
+/// Whether this is a good record of edition three, of a kind that edition two
+/// has not.
+fn is_later(record: &[u8]) -> bool {
+    record[1] > LAST_KIND && Edition::Three.read(record).is_ok()
 }
 
 fn is_kind(kind: u8) -> bool {

@@ -57,10 +57,12 @@ fn read<S: Side>(side: &S, rng: &mut Rng, counts: &mut Counts) -> Result<(), Fou
     Ok(())
 }
 
-/// Fields to write: mostly an event, by a thread that edition two has or not.
+/// Fields to write: mostly an event, of a kind and by a thread that edition two
+/// has or not.
 fn fields(rng: &mut Rng) -> [u8; 16] {
-    let mut record = match rng.below(3) {
-        0 => gen::near_record(rng, Edition::Three),
+    let mut record = match rng.below(6) {
+        0..=1 => gen::near_record(rng, Edition::Three),
+        2 => gen::later_record(rng),
         _ => gen::good_record(rng, Edition::Three),
     };
     let any = rng.byte();

@@ -1,8 +1,8 @@
 //! Events for a machine, and events with any operands.
 
 use super::machines::line;
-use super::rng::Rng;
-use crate::machine::{Machine, Thread, LINE, LOG, THREADS};
+use super::rng::{msr, Rng};
+use crate::machine::{Machine, Msr, Thread, LINE, LOG, THREADS};
 use crate::Event;
 
 fn register(rng: &mut Rng) -> u8 {
@@ -67,7 +67,8 @@ pub fn event(rng: &mut Rng, m: &Machine, len: usize) -> (u8, Event) {
         rng.below(count) as u8
     };
     let kind = rng.pick([
-        1, 2, 3, 4, 5, 6, 7, 8, 9, 10, 11, 12, 13, 14, 15, 16, 17, 1, 2, 6, 12, 12, 13, 13, 13,
+        1, 2, 3, 4, 5, 6, 7, 8, 9, 10, 11, 12, 13, 14, 15, 16, 17, 18, 19, 1, 2, 6, 10, 12, 12, 13,
+        13, 13, 18, 19,
     ]);
     (thread, event_of(rng, m, len, thread, kind))
 }
@@ -87,19 +88,22 @@ impl Fields {
             Fields {
                 to: rng.pick([32, 33, 64, 255, any]),
                 bf: rng.pick([8, 9, 255, any]),
-                spr: rng.pick([0, 1, 127, 132, 255, any]),
+                spr: rng.pick([0, 1, 25, 28, 127, 132, 255, any]),
             }
         } else {
             Fields {
                 to: rng.pick([16, 8, 4, 2, 1, 0, 31, any & 31, any & 31]),
                 bf: any & 7,
-                spr: 128 + (any & 3),
+                spr: match any & 7 {
+                    low @ 0..=1 => 26 + low,
+                    low => 128 + (low & 3),
+                },
             }
         }
     }
 }
 
-/// An event of this kind, 1 to 17, for this machine; other numbers give 17.
+/// An event of this kind, 1 to 19, for this machine; other numbers give 19.
 pub fn event_of(rng: &mut Rng, m: &Machine, len: usize, thread: u8, kind: u8) -> Event {
     // Drawn whatever the kind: coverage tables rest on the order of the draws.
     let Fields { to, bf, spr } = Fields::draw(rng);
@@ -117,10 +121,15 @@ pub fn event_of(rng: &mut Rng, m: &Machine, len: usize, thread: u8, kind: u8) ->
         14 => addi(rng),
         15 => Event::Disallowed,
         16 => Event::Interrupt,
-        _ => Event::Host {
+        17 => Event::Host {
             pr: rng.flag(),
             tm: rng.flag() || rng.flag(),
         },
+        18 => Event::Rfid,
+        _ => {
+            let Msr { ts, tm, pr } = msr(rng);
+            Event::Mtmsrd { ts, tm, pr }
+        }
     }
 }
 
@@ -172,7 +181,7 @@ pub fn any_event(rng: &mut Rng) -> (u8, Event) {
     let si = rng.bits() as u16;
     let one = one & 1 != 0;
     let two = two & 1 != 0;
-    let e = match 1 + rng.below(17) {
+    let e = match 1 + rng.below(19) {
         1 => Event::Tbegin { r: one },
         2 => Event::Tend { a: one },
         3 => Event::Tabort { ra },
@@ -189,7 +198,13 @@ pub fn any_event(rng: &mut Rng) -> (u8, Event) {
         14 => Event::Addi { rt: ra, ra: x, si },
         15 => Event::Disallowed,
         16 => Event::Interrupt,
-        _ => Event::Host { pr: one, tm: two },
+        17 => Event::Host { pr: one, tm: two },
+        18 => Event::Rfid,
+        _ => Event::Mtmsrd {
+            ts: x & 3,
+            tm: one,
+            pr: two,
+        },
     };
     (thread, e)
 }

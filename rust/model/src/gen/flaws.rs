@@ -125,7 +125,7 @@ fn shake(rng: &mut Rng, m: &mut Machine, len: usize) {
     let level = if tidy { level(rng) } else { 0 };
     let address = if tidy { word & !3 } else { word };
     let t = &mut m.threads[rng.below(THREADS)];
-    match rng.below(16) {
+    match rng.below(18) {
         0 => t.live.gpr[rng.below(32)] = word,
         1 => t.live.cr[rng.below(7)] = rng.byte() & 31,
         2 => t.checkpoint.cr[rng.below(7)] = rng.byte() & 31,
@@ -140,7 +140,9 @@ fn shake(rng: &mut Rng, m: &mut Machine, len: usize) {
         11 => t.texasr ^= texasr::FS,
         12 => t.reads.insert(l),
         13 => t.writes.insert(l),
-        14 => add_place(t, Entry { index, value: word }, tidy),
+        14 => t.srr0 = word,
+        15 => t.srr1 = word,
+        16 => add_place(t, Entry { index, value: word }, tidy),
         _ => drop_place(t, tidy),
     }
 }

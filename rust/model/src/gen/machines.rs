@@ -1,6 +1,6 @@
 //! Valid machines and their memories.
 
-use super::rng::{value, Rng};
+use super::rng::{srr1, value, Rng};
 use crate::machine::{
     texasr, Entry, LineSet, Machine, Registers, State, Thread, LINE, LOG, MAX_FOOTPRINT, MAX_LEVEL,
     MAX_MEMORY, THREADS,
@@ -117,6 +117,8 @@ fn thread_in_n(rng: &mut Rng) -> Thread {
         tm: !rng.one_in(8),
         tfhar: address(rng),
         tfiar: value(rng),
+        srr0: value(rng),
+        srr1: srr1(rng),
         ..Thread::ZERO
     }
 }
@@ -142,6 +144,10 @@ fn put_state(rng: &mut Rng, t: &mut Thread, len: usize, held: &LineSet, written:
             fill_sets(rng, t, len, held, written);
             fill_log(rng, t, len / LINE);
         }
+    }
+    // An interrupt leaves T for S and turns the facility off.
+    if t.state == State::S && rng.one_in(3) {
+        t.tm = false;
     }
 }
 

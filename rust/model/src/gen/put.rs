@@ -270,7 +270,7 @@ fn last_or_any<'a, T>(rng: &mut Rng, from: &'a mut [T]) -> Option<&'a mut T> {
 fn taint(rng: &mut Rng, t: &mut Thread) {
     let bit = 1 << rng.below(64);
     let byte = 1 << rng.below(8);
-    match rng.below(19) {
+    match rng.below(21) {
         0 => t.live.gpr[rng.below(32)] = bit,
         1 => t.live.cr[rng.below(7)] = byte,
         2 => t.cr0 = byte,
@@ -285,10 +285,12 @@ fn taint(rng: &mut Rng, t: &mut Thread) {
         11 => t.tfhar = bit,
         12 => t.tfiar = bit,
         13 => t.texasr = bit,
-        14 => t.reads.0[rng.below(4)] = bit,
-        15 => t.writes.0[rng.below(4)] = bit,
-        16 => t.count = rng.pick([1, 64, 65, usize::MAX]),
-        17 => t.log[rng.below(LOG)].index = 1 << rng.below(32),
+        14 => t.srr0 = bit,
+        15 => t.srr1 = bit,
+        16 => t.reads.0[rng.below(4)] = bit,
+        17 => t.writes.0[rng.below(4)] = bit,
+        18 => t.count = rng.pick([1, 64, 65, usize::MAX]),
+        19 => t.log[rng.below(LOG)].index = 1 << rng.below(32),
         _ => t.log[rng.below(LOG)].value = bit,
     }
 }

@@ -1,6 +1,6 @@
 //! The generator, and values drawn from it.
 
-use crate::machine::{texasr, MAX_LEVEL};
+use crate::machine::{texasr, Msr, MAX_LEVEL};
 
 /// A xorshift generator: the same seed gives the same numbers.
 #[derive(Clone, Debug)]
@@ -70,6 +70,25 @@ pub fn value(rng: &mut Rng) -> u64 {
             u64::MAX,
             texasr::FS,
             texasr::FS | texasr::ROT | MAX_LEVEL,
+            // In SRR1: T and S, each with TM = 1 and PR = 1.
+            0x5_0000_4000,
+            0x3_0000_4000,
         ]),
     }
+}
+
+/// What rfid and mtmsrd can ask for: each as often as any other.
+pub fn msr(rng: &mut Rng) -> Msr {
+    Msr {
+        ts: rng.below(4) as u8,
+        tm: rng.flag(),
+        pr: rng.flag(),
+    }
+}
+
+/// A value of SRR1: it asks for anything, and often has bits that mean nothing.
+pub fn srr1(rng: &mut Rng) -> u64 {
+    let meant = Msr::of(u64::MAX).bits();
+    let any = value(rng);
+    rng.pick([0, any, !0]) & !meant | msr(rng).bits()
 }

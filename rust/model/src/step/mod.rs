@@ -1,4 +1,4 @@
-//! Doing one event: rules E1 to E17 and A0 to A5, and the tests of an event,
+//! Doing one event: rules E1 to E19 and A0 to A5, and the tests of an event,
 //! rule N2. Who failed in it, rule H8, is noted where the failure is recorded
 //! or handled.
 //!
@@ -8,13 +8,14 @@
 mod aborts;
 mod access;
 mod failures;
+mod interrupts;
 mod refusals;
 mod registers;
 mod transactions;
 
 use crate::answer;
 use crate::machine::State::{N, S};
-use crate::machine::{valid, Machine, THREADS};
+use crate::machine::{valid, Machine, Msr, THREADS};
 use crate::Event;
 use access::{load, store};
 use refusals::{access, test};
@@ -128,10 +129,16 @@ fn attempt(m: &mut Machine, mem: &mut [u64], thread: u8, e: Event) -> Result<Wen
         }
         Event::Tsr { l } => t.facility()?.tsr(l),
         Event::Tcheck { bf } => t.field(bf)?.facility()?.tcheck(bf),
-        Event::Treclaim { ra } => t.register(ra)?.privileged()?.not_in(N)?.treclaim(ra),
-        Event::Trechkpt => t.privileged()?.failed_in_n()?.trechkpt(),
-        Event::Mtspr { spr, ra } => t.special(spr, ra)?.facility()?.only_in_n()?.mtspr(spr, ra),
-        Event::Mfspr { rt, spr } => t.special(spr, rt)?.facility()?.mfspr(rt, spr),
+        Event::Treclaim { ra } => {
+            let t = t.register(ra)?.facility()?.privileged()?;
+            t.not_in(N)?.treclaim(ra)
+        }
+        Event::Trechkpt => t.facility()?.privileged()?.failed_in_n()?.trechkpt(),
+        Event::Mtspr { spr, ra } => {
+            let t = t.special(spr, ra)?.may_name(spr)?;
+            t.may_set(spr)?.mtspr(spr, ra)
+        }
+        Event::Mfspr { rt, spr } => t.special(spr, rt)?.may_name(spr)?.mfspr(rt, spr),
         Event::Ld { rt, index } => {
             access(rt, index, mem)?;
             load(m, mem, me, rt, index)
@@ -144,5 +151,7 @@ fn attempt(m: &mut Machine, mem: &mut [u64], thread: u8, e: Event) -> Result<Wen
         Event::Disallowed => t.disallowed(),
         Event::Interrupt => t.interrupt(),
         Event::Host { pr, tm } => t.host_may()?.host(pr, tm),
+        Event::Rfid => t.privileged()?.rfid()?,
+        Event::Mtmsrd { ts, tm, pr } => t.privileged()?.mtmsrd(Msr { ts, tm, pr })?,
     })
 }

@@ -49,7 +49,10 @@ impl Thread {
     /// Test 4 for SPR and a register.
     #[inline(always)]
     pub(super) fn special(&mut self, spr: u8, r: u8) -> Test<&mut Thread> {
-        self.test(matches!(spr, 128..=131) && r <= 31, answer::OPERAND)
+        self.test(
+            matches!(spr, 26 | 27 | 128..=131) && r <= 31,
+            answer::OPERAND,
+        )
     }
 
     /// Test 5.
@@ -64,11 +67,29 @@ impl Thread {
         self.test(self.tm, answer::FACILITY_OFF)
     }
 
-    /// Tests 11 and 12, for a privileged TM instruction.
+    /// Test 12.
     #[inline(always)]
     pub(super) fn privileged(&mut self) -> Test<&mut Thread> {
-        let t = self.facility()?;
-        t.test(!t.pr, answer::PRIVILEGED)
+        self.test(!self.pr, answer::PRIVILEGED)
+    }
+
+    /// Tests 11 and 12 for an SPR: SRR0 and SRR1 are privileged and no part of
+    /// the facility, the others the other way round (rule E0.6).
+    #[inline(always)]
+    pub(super) fn may_name(&mut self, spr: u8) -> Test<&mut Thread> {
+        match spr {
+            26 | 27 => self.privileged(),
+            _ => self.facility(),
+        }
+    }
+
+    /// Test 13 for mtspr (rule E10).
+    #[inline(always)]
+    pub(super) fn may_set(&mut self, spr: u8) -> Test<&mut Thread> {
+        match spr {
+            26 | 27 => self.not_in(State::T),
+            _ => self.only_in_n(),
+        }
     }
 
     /// Test 13 for an event that is a Bad Thing in this state.

@@ -26,6 +26,8 @@ impl Thread {
     pub(super) fn mtspr(&mut self, spr: u8, ra: u8) -> Went {
         let value = self.gpr(ra);
         match spr {
+            26 => self.srr0 = value,
+            27 => self.srr1 = value,
             128 => self.tfhar = value & !3,
             129 => self.tfiar = value,
             130 => self.texasr = value,
@@ -37,6 +39,8 @@ impl Thread {
     /// Event 11.
     pub(super) fn mfspr(&mut self, rt: u8, spr: u8) -> Went {
         let value = match spr {
+            26 => self.srr0,
+            27 => self.srr1,
             128 => self.tfhar,
             129 if self.pr && self.tfiar & 1 == 0 => 0,
             129 => self.tfiar,

@@ -1,24 +1,14 @@
-//! The events that move a thread between N, T and S: 1, 2, 6, 8, 9, 16 and
-//! 17; and event 7, which tells where it is.
+//! The events of the facility that move a thread between N, T and S: 1, 2, 6, 8
+//! and 9; and event 7, which tells where it is.
 
 use super::failures::cause;
 use super::Went;
 use crate::machine::{texasr, State, Thread, MAX_LEVEL};
 
 impl Thread {
-    /// The two TS bits.
-    #[inline]
-    fn ts(&self) -> u8 {
-        match self.state {
-            State::N => 0b00,
-            State::T => 0b10,
-            State::S => 0b01,
-        }
-    }
-
     #[inline]
     pub(super) fn cr0_from_state(&mut self) {
-        self.cr0 = self.ts() << 1;
+        self.cr0 = self.state.ts() << 1;
     }
 
     /// Event 1. Nested, R = 0 turns ROT off until the outer end, and R = 1
@@ -81,7 +71,7 @@ impl Thread {
 
     /// Event 7.
     pub(super) fn tcheck(&mut self, bf: u8) -> Went {
-        let field = u8::from(self.doomed) << 3 | self.ts() << 1;
+        let field = u8::from(self.doomed) << 3 | self.state.ts() << 1;
         match bf.checked_sub(1) {
             None => self.cr0 = field,
             Some(n) => {
@@ -116,24 +106,5 @@ impl Thread {
         self.state = State::S;
         self.doomed = true;
         self.next()
-    }
-
-    /// Event 16.
-    #[inline]
-    pub(super) fn interrupt(&mut self) -> Went {
-        if self.state == State::T {
-            self.state = State::S;
-        }
-        self.pr = false;
-        self.tm = false;
-        Went::DONE
-    }
-
-    /// Event 17.
-    #[inline]
-    pub(super) fn host(&mut self, pr: bool, tm: bool) -> Went {
-        self.pr = pr;
-        self.tm = tm;
-        Went::DONE
     }
 }

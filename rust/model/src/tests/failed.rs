@@ -127,6 +127,28 @@ fn leaving_t_is_no_failure() {
     Bench::begun().fails(0, TSUSPEND, 0, 0);
     Bench::begun().fails(0, Event::Interrupt, 0, 0);
     Bench::suspended().fails(0, TRESUME, 0, 0);
+    let mut b = Bench::begun();
+    b.done(Event::Interrupt).fails(0, Event::Rfid, 0, 0);
+}
+
+/// rfid and mtmsrd tell what they fail in T, and what they handle, after
+/// trechkpt. too.
+#[test]
+fn rfid_and_mtmsrd_tell_what_they_handle() {
+    let to_t = mtmsrd(2 + 4);
+    for e in [Event::Rfid, to_t] {
+        Bench::begun().may(0).fails(0, e, 20, 0b0001);
+        let mut b = Bench::begun();
+        b.done(ld(1, 5)).done(Event::Interrupt);
+        b.fails(1, std(1, 5), 0, 0b0001).fails(0, e, 20, 0b0001);
+    }
+    let mut b = Bench::privileged();
+    b.m.threads[0].texasr = texasr::FS;
+    b.fails(0, Event::Trechkpt, 0, 0).fails(0, to_t, 20, 0b0001);
+    // What asks for no T handles nothing, and what is refused neither.
+    let mut b = Bench::doomed();
+    b.may(0).fails(0, mtmsrd(1), 0, 0);
+    b.fails(0, mtmsrd(2), 13, 0).is(State::S);
 }
 
 /// The bit of a thread by the rule's own sentence, from before and after.

@@ -198,10 +198,12 @@ fn t_with_the_facility_off_is_valid() {
 
 #[test]
 fn n_asks_little() {
-    // Nothing of TEXASR, TFIAR and the checkpoint's registers.
+    // Nothing of TEXASR, TFIAR, SRR0, SRR1 and the checkpoint's registers.
     let mut m = Machine::fresh();
     m.threads[1].texasr = u64::MAX;
     m.threads[1].tfiar = u64::MAX;
+    m.threads[1].srr0 = u64::MAX;
+    m.threads[1].srr1 = u64::MAX;
     m.threads[1].checkpoint.gpr = [u64::MAX; 32];
     m.threads[1].live.gpr = [u64::MAX; 32];
     assert!(valid(&m, 4096));
@@ -219,6 +221,17 @@ fn records_past_the_count_are_zero() {
     assert!(valid(&m, 4096));
     m.threads[3].tm = true;
     assert!(!valid(&m, 4096));
+    // And SRR0 and SRR1, each bit.
+    for bit in 0..64 {
+        for (srr0, srr1) in [(1 << bit, 0), (0, 1 << bit)] {
+            m.threads[3] = Thread {
+                srr0,
+                srr1,
+                ..Thread::ZERO
+            };
+            assert!(!valid(&m, 4096));
+        }
+    }
 }
 
 #[test]

@@ -193,6 +193,15 @@ const TABORT: Event = Event::Tabort { ra: 0 };
 const TSUSPEND: Event = Event::Tsr { l: false };
 const TRESUME: Event = Event::Tsr { l: true };
 
+/// By the flags of its record.
+const fn mtmsrd(flags: u8) -> Event {
+    Event::Mtmsrd {
+        ts: flags & 3,
+        tm: flags & 4 != 0,
+        pr: flags & 8 != 0,
+    }
+}
+
 const fn ld(rt: u8, index: u32) -> Event {
     Event::Ld { rt, index }
 }

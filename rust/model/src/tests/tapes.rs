@@ -77,15 +77,36 @@ pub(super) const KINDS_10_TO_17: [Bytes; 9] = [
     ),
 ];
 
+/// Edition two has not these.
+pub(super) const KINDS_18_AND_19: [Bytes; 6] = [
+    (Event::Rfid, [18, 0, 0, 0, 0]),
+    (mtmsrd(1), [19, 0, 0, 0, 1]),
+    (mtmsrd(2), [19, 0, 0, 0, 2]),
+    (mtmsrd(4), [19, 0, 0, 0, 4]),
+    (mtmsrd(8), [19, 0, 0, 0, 8]),
+    (mtmsrd(15), [19, 0, 0, 0, 15]),
+];
+
 #[test]
 fn bytes_of_each_kind() {
-    for (e, [kind, x, ra, rb, flags]) in KINDS_1_TO_9.into_iter().chain(KINDS_10_TO_17) {
+    let kinds = KINDS_1_TO_9.into_iter().chain(KINDS_10_TO_17);
+    for (e, [kind, x, ra, rb, flags]) in kinds.chain(KINDS_18_AND_19) {
         let bytes = [
             0xE3, kind, 0xD4, x, ra, rb, flags, 0, 0, 0, 0, 0, 0, 0, 0, 0,
         ];
         assert_eq!(encode(0xD4, e), bytes);
         assert_eq!(read(&bytes), Ok((0xD4, e)));
         assert_eq!(e.kind(), kind);
+    }
+}
+
+/// TS + 4 x TM + 8 x PR.
+#[test]
+fn flags_of_mtmsrd() {
+    let (ts, tm, pr) = (1, false, true);
+    assert_eq!(encode(0, Event::Mtmsrd { ts, tm, pr })[6], 9);
+    for flags in 0..16 {
+        assert_eq!(encode(0, mtmsrd(flags))[6], flags);
     }
 }
 

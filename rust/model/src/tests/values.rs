@@ -1,4 +1,4 @@
-//! Rules K1 to K13: the bench values.
+//! Rules K1 to K18: the bench values.
 
 use super::*;
 
@@ -159,4 +159,85 @@ fn k13_the_highest_level_leaves_rot() {
     assert_eq!(b.thread(0).texasr, 0x0200_0FFF);
     b.gives(TBEGIN, 20);
     assert_eq!(b.thread(0).texasr, 0x0040_0000_1E00_0FFF);
+}
+
+/// Thread 0 at 0x1000 after tbegin., the events and kind 16.
+fn interrupted(events: &[Event]) -> Bench {
+    let mut b = Bench::fresh();
+    b.m.threads[0].nia = 0x1000;
+    b.done(TBEGIN);
+    for &e in events {
+        b.done(e);
+    }
+    b.done(Event::Interrupt);
+    b
+}
+
+#[test]
+fn k14_an_interrupt_and_back() {
+    let mut b = interrupted(&[]);
+    let t = b.thread(0);
+    assert_eq!((t.srr0, t.srr1), (0x1004, 0x0000_0005_0000_4000));
+    assert_eq!(
+        (t.state, t.pr, t.tm, t.nia),
+        (State::S, false, false, 0x500)
+    );
+    b.done(Event::Rfid);
+    let t = b.thread(0);
+    assert_eq!((t.state, t.pr, t.tm, t.nia), (State::T, true, true, 0x1004));
+    assert_eq!(t.cr0, 0b0000);
+}
+
+#[test]
+fn k15_doomed_meanwhile() {
+    let mut b = interrupted(&[ld(1, 17)]);
+    b.done_by(1, std(2, 17));
+    let t = b.thread(0);
+    assert_eq!((t.texasr, t.tfiar), (0x0008_0000_8800_0001, 0x500));
+    b.gives(Event::Rfid, 20);
+    let t = b.thread(0);
+    assert_eq!((t.state, t.pr, t.tm), (State::N, true, true));
+    assert_eq!((t.nia, t.tfhar, t.cr0), (0x1004, 0x1004, 0b1010));
+    assert_eq!((t.texasr, t.tfiar), (0x0008_0000_8800_0001, 0x500));
+}
+
+#[test]
+fn k16_in_t() {
+    let host = Event::Host {
+        pr: false,
+        tm: true,
+    };
+    let rfid = [Event::Rfid];
+    for e in rfid.into_iter().chain((0..16).map(mtmsrd)) {
+        let mut b = Bench::fresh();
+        b.done(host).done(TBEGIN).gives(e, 20);
+        assert_eq!(b.thread(0).texasr, 0x0080_0000_0C00_0001);
+    }
+}
+
+#[test]
+fn k17_what_is_saved() {
+    let mut b = Bench::suspended();
+    b.done(Event::Interrupt);
+    assert_eq!(b.thread(0).srr1, 0x0000_0003_0000_4000);
+    let mut b = Bench::fresh();
+    b.done(Event::Host {
+        pr: false,
+        tm: false,
+    });
+    b.m.threads[0].srr1 = u64::MAX;
+    b.done(Event::Interrupt);
+    assert_eq!(b.thread(0).srr1, 0);
+}
+
+#[test]
+fn k18_s_is_asked_for_n() {
+    let mut b = Bench::suspended();
+    let t = &mut b.m.threads[0];
+    (t.pr, t.tm) = (false, false);
+    let mut on = b.clone();
+    b.done(mtmsrd(8)).is(State::S);
+    assert_eq!((b.thread(0).tm, b.thread(0).pr), (false, true));
+    on.m.threads[0].tm = true;
+    on.refused(mtmsrd(8), 13);
 }

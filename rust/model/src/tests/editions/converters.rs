@@ -144,10 +144,18 @@ fn refused_records(edition: Edition) -> Vec<(u8, [u8; 16])> {
         record[n] = byte;
         record
     };
-    let mut refused = vec![(8, with(1, 18)), (9, with(15, 1)), (9, with(12, 1))];
+    let mut refused = vec![(8, with(1, 20)), (9, with(15, 1)), (9, with(12, 1))];
     refused.extend(match edition {
-        Edition::Two => vec![(7, with(0, 4)), (7, STD_IN_THREE), (9, with(2, 1))],
-        Edition::Three => vec![(3, with(2, 4)), (7, STD_IN_TWO), (9, with(7, 1))],
+        Edition::Two => vec![(7, with(0, 4)), (7, STD_IN_THREE), (8, with(1, 18))],
+        Edition::Three => vec![
+            (3, with(2, 4)),
+            (7, STD_IN_TWO),
+            (9, with(7, 1)),
+            // The writer's, for edition two has not these kinds.
+            (8, encode(3, Event::Rfid)),
+            (8, encode(0, mtmsrd(15))),
+            (3, encode(4, Event::Rfid)),
+        ],
     });
     refused
 }
@@ -176,7 +184,7 @@ fn the_reader_s_number_comes_before_the_writer_s() {
     let mut record = STD_IN_THREE;
     record[2] = 4;
     assert_eq!(convert(Edition::Three, &record), Err((3, 0)));
-    for (n, byte, number) in [(15, 1, 9), (1, 18, 8), (0, 4, 7)] {
+    for (n, byte, number) in [(15, 1, 9), (1, 20, 8), (0, 4, 7)] {
         record[n] = byte;
         assert_eq!(convert(Edition::Three, &record), Err((number, 0)));
     }

@@ -3,16 +3,17 @@
 use super::*;
 use crate::edition_two::refusal;
 use crate::gen;
-use crate::tests::tapes::{KINDS_10_TO_17, KINDS_1_TO_9};
+use crate::tests::tapes::{KINDS_10_TO_17, KINDS_18_AND_19, KINDS_1_TO_9};
 
 /// The event into buffers of each length: the number, and what may change.
 fn into_each_length(thread: u8, e: Event) {
     for len in 0..40 {
         let mut buf = vec![0xAA; len];
         let number = write(thread, e, &mut buf);
-        let right = match (thread, len) {
-            (4.., _) => 3,
-            (_, ..16) => 10,
+        let right = match (thread, e.kind(), len) {
+            (4.., ..) => 3,
+            (_, 18.., _) => 8,
+            (.., ..16) => 10,
             _ => 0,
         };
         assert_eq!(number, right, "{e:?} by {thread} into {len}");
@@ -26,14 +27,15 @@ fn into_each_length(thread: u8, e: Event) {
 
 #[test]
 fn each_kind_by_each_thread_into_each_length() {
-    for (e, _) in KINDS_1_TO_9.into_iter().chain(KINDS_10_TO_17) {
+    let kinds = KINDS_1_TO_9.into_iter().chain(KINDS_10_TO_17);
+    for (e, _) in kinds.chain(KINDS_18_AND_19) {
         for thread in [0, 1, 2, 3, 4, 5, 0xE3, 255] {
             into_each_length(thread, e);
         }
     }
 }
 
-/// No event has a kind above 17 yet, so 8 is asked of the tests alone.
+/// Of kinds that no event has, too.
 #[test]
 fn numbers_in_their_order() {
     for (thread, kind, room, number) in [
@@ -41,6 +43,7 @@ fn numbers_in_their_order() {
         (255, 255, 0, Some(3)),
         (4, 17, 16, Some(3)),
         (3, 18, 15, Some(8)),
+        (0, 19, 16, Some(8)),
         (0, 255, 16, Some(8)),
         (3, 17, 15, Some(10)),
         (0, 1, 0, Some(10)),
@@ -56,7 +59,7 @@ fn numbers_in_their_order() {
 }
 
 #[test]
-fn any_event_is_written_or_refused_by_its_thread() {
+fn any_event_is_written_or_refused_by_its_thread_or_kind() {
     seeds(20_000, |rng| {
         let (thread, e) = gen::any_event(rng);
         let fill = rng.byte();
@@ -64,8 +67,8 @@ fn any_event_is_written_or_refused_by_its_thread() {
         match write(thread, e, &mut buf) {
             0 => assert_eq!(read(&buf[..16]), Ok((thread, e))),
             number => {
-                assert_eq!(number, 3);
-                assert!(thread > 3);
+                assert_eq!(number, if thread > 3 { 3 } else { 8 });
+                assert!(thread > 3 || e.kind() > 17);
                 assert_eq!(buf[..16], [fill; 16]);
             }
         }

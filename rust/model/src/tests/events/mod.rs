@@ -1,8 +1,9 @@
-//! Rules E1 to E17 and A0 to A5: each rule once, by hand.
+//! Rules E1 to E19 and A0 to A5: each rule once, by hand.
 
 mod aborts;
 mod access;
 mod conflicts;
+mod interrupts;
 mod registers;
 mod transactions;
 

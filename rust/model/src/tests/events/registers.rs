@@ -1,4 +1,4 @@
-//! Events 10, 11, 14, 16 and 17: registers, and PR and TM.
+//! Events 10, 11 and 14: registers.
 
 use super::*;
 
@@ -46,6 +46,40 @@ fn mfspr() {
     }
 }
 
+/// SRR0 and SRR1 are stored and read whole, in N and in S, with TM = 0 too.
+#[test]
+fn srr0_and_srr1() {
+    for mut b in [Bench::fresh(), Bench::suspended(), Bench::doomed()] {
+        for (tm, ra) in [(false, 0), (true, 7)] {
+            let t = &mut b.m.threads[0];
+            (t.pr, t.tm) = (false, tm);
+            t.live.gpr[ra as usize] = 0xFEDC_BA98_7654_3213;
+            (t.srr0, t.srr1) = (1, 2);
+            b.makes(Event::Mtspr { spr: 26, ra }, |before| Thread {
+                srr0: 0xFEDC_BA98_7654_3213,
+                nia: before.nia + 4,
+                ..before
+            });
+            b.makes(Event::Mtspr { spr: 27, ra }, |before| Thread {
+                srr1: 0xFEDC_BA98_7654_3213,
+                nia: before.nia + 4,
+                ..before
+            });
+        }
+    }
+    for mut b in [Bench::fresh(), Bench::begun(), Bench::doomed()] {
+        for tm in [false, true] {
+            let t = &mut b.m.threads[0];
+            (t.pr, t.tm) = (false, tm);
+            (t.srr0, t.srr1) = (0x1003, u64::MAX);
+            for (spr, value) in [(26, 0x1003), (27, u64::MAX)] {
+                b.done(Event::Mfspr { rt: 9, spr });
+                assert_eq!(b.thread(0).live.gpr[9], value);
+            }
+        }
+    }
+}
+
 #[test]
 fn add_immediate() {
     let mut b = Bench::fresh();
@@ -67,30 +101,4 @@ fn add_immediate() {
         assert_eq!(b.thread(0).live.gpr[rt as usize], sum);
     }
     assert_eq!(b.thread(0).nia, 40);
-}
-
-#[test]
-fn interrupts_and_the_host() {
-    let mut b = Bench::fresh();
-    b.done(TBEGIN).done(std(1, 5));
-    b.makes(Event::Interrupt, |before| Thread {
-        state: State::S,
-        pr: false,
-        tm: false,
-        ..before
-    });
-    b.refused(TRESUME, 11);
-    b.makes(Event::Host { pr: true, tm: true }, |before| Thread {
-        pr: true,
-        tm: true,
-        ..before
-    });
-    b.done(TRESUME).is(State::T);
-    for mut b in [Bench::fresh(), Bench::suspended(), Bench::doomed()] {
-        b.makes(Event::Interrupt, |before| Thread {
-            pr: false,
-            tm: false,
-            ..before
-        });
-    }
 }

@@ -1,4 +1,4 @@
-//! The sentences of rules E1 to E17, on threads in plain values.
+//! The sentences of rules E1 to E19, on threads in plain values.
 
 use std::cmp::Ordering::{self, Equal, Greater, Less};
 
@@ -40,7 +40,9 @@ fn refuses(t: &Plain, len: usize, e: Event) -> Option<u8> {
     let big_field = match e {
         Event::Tcheck { bf } => bf > 7,
         Event::Tabortwc { to, .. } | Event::Tabortdc { to, .. } => to > 31,
-        Event::Mtspr { spr, .. } | Event::Mfspr { spr, .. } => !(128..=131).contains(&spr),
+        Event::Mtspr { spr, .. } | Event::Mfspr { spr, .. } => {
+            ![26, 27, 128, 129, 130, 131].contains(&spr)
+        }
         Event::Ld { index, .. } | Event::Std { index, .. } => index as usize >= len,
         _ => false,
     };
@@ -50,20 +52,55 @@ fn refuses(t: &Plain, len: usize, e: Event) -> Option<u8> {
     if e.kind() == 17 && t.state == State::T {
         return Some(5);
     }
-    if !t.tm && e.kind() <= 11 {
+    let system = names_system_register(e);
+    if !t.tm && e.kind() <= 11 && !system {
         return Some(11);
     }
-    if t.pr && (e.kind() == 8 || e.kind() == 9) {
+    if t.pr && (matches!(e.kind(), 8 | 9 | 18 | 19) || system) {
         return Some(12);
     }
     let bad = match e.kind() {
         2 => t.state == State::S,
         8 => t.state == State::N,
         9 => !(t.state == State::N && t.lower.fs),
-        10 => t.state == State::T || t.state == State::S,
+        10 => t.state == State::T || t.state == State::S && !system,
+        18 | 19 => !may_ask(t, asked(t, e)),
         _ => false,
     };
     bad.then_some(13)
+}
+
+/// Whether an mtspr or mfspr is of SRR0 or SRR1.
+fn names_system_register(e: Event) -> bool {
+    matches!(
+        e,
+        Event::Mtspr { spr: 26 | 27, .. } | Event::Mfspr { spr: 26 | 27, .. }
+    )
+}
+
+/// TS, TM and PR.
+type Asked = (u8, bool, bool);
+
+/// What an rfid or mtmsrd asks for.
+fn asked(t: &Plain, e: Event) -> Asked {
+    let bit = |weight: u64| t.srr1 / weight % 2;
+    match e {
+        Event::Mtmsrd { ts, tm, pr } => (ts, tm, pr),
+        _ => {
+            let ts = 2 * bit(1 << 34) + bit(1 << 33);
+            (ts as u8, bit(1 << 32) == 1, bit(1 << 14) == 1)
+        }
+    }
+}
+
+/// Rule E0.11 in sentences: N may ask for N. S may ask for S, for T with TM = 1,
+/// and with TM = 0 for N with TM = 0. T may ask for anything, and fails.
+fn may_ask(t: &Plain, (ts, tm, _): Asked) -> bool {
+    match t.state {
+        State::N => ts == 0,
+        State::S => ts == 1 || ts == 2 && tm || ts == 0 && !tm && !t.tm,
+        State::T => true,
+    }
 }
 
 /// Whether TO chooses what holds between two numbers, both with their signs
@@ -117,7 +154,7 @@ pub fn literal(threads: &mut [Plain], mem: &mut [u64], me: usize, e: Event) -> u
     let cia = t.nia;
     // NIA moves first here; handling sets it again. Events 16 and 17 are no
     // instructions.
-    if e.kind() < 16 {
+    if !matches!(e.kind(), 16 | 17) {
         t.nia = next(cia);
     }
     // Those that can fail a transaction give a number back.
@@ -139,6 +176,7 @@ pub fn literal(threads: &mut [Plain], mem: &mut [u64], me: usize, e: Event) -> u
         Event::Disallowed => return disallowed(t, cia),
         Event::Interrupt => interrupt(t),
         Event::Host { pr, tm } => (t.pr, t.tm) = (pr, tm),
+        Event::Rfid | Event::Mtmsrd { .. } => return comes_back(t, e, cia),
     }
     0
 }
@@ -266,6 +304,8 @@ fn trechkpt(t: &mut Plain) {
 fn mtspr(t: &mut Plain, spr: u8, ra: u8) {
     let value = reg(t, ra);
     match spr {
+        26 => t.srr0 = value,
+        27 => t.srr1 = value,
         128 => t.tfhar = value / 4 * 4,
         129 => t.tfiar = value,
         130 => {
@@ -278,6 +318,8 @@ fn mtspr(t: &mut Plain, spr: u8, ra: u8) {
 
 fn mfspr(t: &Plain, spr: u8) -> u64 {
     match spr {
+        26 => t.srr0,
+        27 => t.srr1,
         128 => t.tfhar,
         129 if t.pr && t.tfiar % 2 == 0 => 0,
         129 => t.tfiar,
@@ -293,9 +335,45 @@ fn sum(a: u64, si: u16) -> u64 {
 }
 
 fn interrupt(t: &mut Plain) {
+    let (ts0, ts1) = t.ts();
+    t.srr0 = t.nia;
+    t.srr1 = 0;
+    for (bit, weight) in [
+        (ts0 == 1, 1 << 34),
+        (ts1 == 1, 1 << 33),
+        (t.tm, 1 << 32),
+        (t.pr, 1 << 14),
+    ] {
+        if bit {
+            t.srr1 += weight;
+        }
+    }
     if t.state == State::T {
         t.state = State::S;
     }
     t.pr = false;
     t.tm = false;
+    t.nia = 0x500;
+}
+
+/// An rfid or mtmsrd that is not refused.
+fn comes_back(t: &mut Plain, e: Event, cia: u64) -> u8 {
+    if t.state == State::T {
+        return own_failure(t, 0x0080_0000, cia);
+    }
+    let (ts, tm, pr) = asked(t, e);
+    t.pr = pr;
+    t.tm = tm;
+    if e.kind() == 18 {
+        t.nia = t.srr0 / 4 * 4;
+    }
+    // S asks for N or S and stays, and N asks for N.
+    if ts == 2 {
+        t.state = State::T;
+        if t.doomed {
+            t.handle();
+            return 20;
+        }
+    }
+    0
 }

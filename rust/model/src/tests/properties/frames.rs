@@ -76,23 +76,26 @@ fn answers(s: &Stepped) {
             assert_eq!(new.nia, old.nia.wrapping_add(4));
         }
         _ => {
-            let moves = s.e.kind() < 16;
-            let nia = if moves {
-                old.nia.wrapping_add(4)
-            } else {
-                old.nia
+            let nia = match s.e {
+                Event::Interrupt => 0x500,
+                Event::Host { .. } => old.nia,
+                Event::Rfid => old.srr0 - old.srr0 % 4,
+                _ => old.nia.wrapping_add(4),
             };
             assert_eq!(new.nia, nia);
         }
     }
 }
 
-/// PR and TM, and what a failure has recorded, are changed by few kinds.
+/// PR and TM, SRR0 and SRR1, and what a failure has recorded, are changed by few
+/// kinds.
 fn own_registers(s: &Stepped) {
     let (old, new) = s.own();
     let kind = s.e.kind();
-    assert!(new.pr == old.pr || matches!(kind, 16 | 17));
-    assert!(new.tm == old.tm || matches!(kind, 16 | 17));
+    assert!(new.pr == old.pr || matches!(kind, 16..=19));
+    assert!(new.tm == old.tm || matches!(kind, 16..=19));
+    assert!(new.srr0 == old.srr0 || matches!(kind, 10 | 16));
+    assert!(new.srr1 == old.srr1 || matches!(kind, 10 | 16));
     if old.failed() && !matches!(kind, 1 | 10) {
         assert_eq!((new.texasr, new.tfiar), (old.texasr, old.tfiar));
     }

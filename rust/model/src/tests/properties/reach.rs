@@ -1,9 +1,10 @@
 //! The generators are to reach everything: each kind in each state, done and
 //! not, and each special case of an access.
 
-use std::collections::BTreeMap;
+use std::collections::{BTreeMap, BTreeSet};
 
 use super::*;
+use crate::Msr;
 
 #[test]
 fn reach() {
@@ -18,6 +19,32 @@ fn reach() {
         .map(|w| (w, seen.0.get(w).copied().unwrap_or(0)))
         .filter(|&(_, n)| n < 8)
         .collect();
+    assert!(rare.is_empty(), "{rare:#?}");
+}
+
+/// Every cell of the table of rule E0.11 for both kinds, doomed or not and with
+/// either PR asked, and T with all that can be asked.
+#[test]
+fn reach_of_what_is_asked() {
+    let mut met = BTreeMap::<_, usize>::new();
+    let mut rng = Rng::new(78);
+    for _ in 0..200_000 {
+        let s = Stepped::draw(&mut rng);
+        if s.thread >= s.before.m.count || s.before.thread(s.thread).pr {
+            continue;
+        }
+        let t = s.before.thread(s.thread);
+        let asked = match s.e {
+            Event::Rfid => Msr::of(t.srr1),
+            Event::Mtmsrd { ts, tm, pr } => Msr { ts, tm, pr },
+            _ => continue,
+        };
+        let cell = (s.e.kind(), class(t), t.tm, asked.ts, asked.tm, asked.pr);
+        *met.entry(cell).or_default() += 1;
+    }
+    // Two kinds, N, T, S live and S doomed, either TM, and sixteen to ask for.
+    assert_eq!(met.len(), 2 * 4 * 2 * 16, "{met:#?}");
+    let rare: BTreeSet<_> = met.iter().filter(|(_, times)| **times < 4).collect();
     assert!(rare.is_empty(), "{rare:#?}");
 }
 
@@ -132,7 +159,7 @@ const STATES: [&str; 4] = ["N", "T", "S live", "S doomed"];
 const LIVE: [&str; 2] = ["T", "S live"];
 
 /// Answers that a kind has in a state besides that of `of_kind`.
-const OTHER_ANSWERS: [(u8, &str, u8); 9] = [
+const OTHER_ANSWERS: [(u8, &str, u8); 13] = [
     (1, "T", 20),
     (4, "T", 20),
     (5, "T", 20),
@@ -142,6 +169,10 @@ const OTHER_ANSWERS: [(u8, &str, u8); 9] = [
     (13, "S live", 21),
     (12, "T", 20),
     (13, "T", 20),
+    (18, "S live", 13),
+    (18, "S doomed", 20),
+    (19, "S live", 13),
+    (19, "S doomed", 20),
 ];
 
 const SPECIAL: [&str; 23] = [
@@ -173,7 +204,7 @@ const SPECIAL: [&str; 23] = [
 /// All that is to be seen often enough.
 fn wanted() -> Vec<String> {
     let answers = [0, 20, 21, 3, 4, 5, 11, 12, 13].map(|number| format!("answer {number}"));
-    let kinds = (1..=17).flat_map(|kind| STATES.map(|state| of_kind(kind, state)));
+    let kinds = (1..=19).flat_map(|kind| STATES.map(|state| of_kind(kind, state)));
     let others =
         OTHER_ANSWERS.map(|(kind, state, number)| format!("kind {kind} in {state}: {number}"));
     let levels = [2, 3, MAX_LEVEL].map(|level| format!("nested to {level}"));
@@ -192,10 +223,10 @@ fn of_kind(kind: u8, state: &str) -> Vec<String> {
     let reached = format!("kind {kind} in {state}");
     let done = match (kind, state) {
         // Refused there always.
-        (2 | 9 | 10, "S live" | "S doomed") | (9 | 10 | 17, "T") | (8, "N") => {
+        (2 | 9, "S live" | "S doomed") | (9 | 10 | 17, "T") | (8, "N") => {
             return vec![reached];
         }
-        (3 | 15, "T") => 20,
+        (3 | 15 | 18 | 19, "T") => 20,
         (3, "S live") => 21,
         (6, "S doomed") => 20,
         _ => 0,

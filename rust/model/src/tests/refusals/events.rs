@@ -24,7 +24,7 @@ fn with_operand(n: u8) -> Vec<Event> {
 fn operands_out_of_range() -> Vec<Event> {
     let registers = [32, 33, 128, 255].into_iter().flat_map(with_operand);
     let fields = [8, 9, 255].map(|bf| Event::Tcheck { bf });
-    let sprs = [0, 127, 132, 255]
+    let sprs = [0, 25, 28, 127, 132, 255]
         .into_iter()
         .flat_map(|spr| [Event::Mtspr { spr, ra: 0 }, Event::Mfspr { rt: 0, spr }]);
     let indices = [4096, 4097, 1 << 16, u32::MAX]
@@ -112,7 +112,7 @@ fn number_11_facility_off() {
 fn number_12_privileged() {
     for e in EACH {
         for mut b in in_each_state(true, true) {
-            if matches!(e.kind(), 8 | 9) {
+            if matches!(e.kind(), 8 | 9 | 18 | 19) {
                 // Also before 13.
                 b.refused(e, 12);
             } else {
@@ -121,6 +121,42 @@ fn number_12_privileged() {
         }
         for mut b in in_each_state(false, true) {
             assert_ne!(b.step(0, e), 12);
+        }
+    }
+}
+
+/// SRR0 and SRR1 are privileged, and no part of the facility: 12 with PR = 1
+/// whatever TM is, and never 11. mtspr of them is a Bad Thing in T alone.
+#[test]
+fn numbers_12_and_13_of_srr0_and_srr1() {
+    for spr in [26, 27] {
+        let (set, get) = (Event::Mtspr { spr, ra: 31 }, Event::Mfspr { rt: 31, spr });
+        for tm in [false, true] {
+            for mut b in in_each_state(true, tm) {
+                b.refused(set, 12).refused(get, 12);
+            }
+            for mut b in in_each_state(false, tm) {
+                b.done(get);
+                match b.thread(0).state {
+                    State::T => b.refused(set, 13),
+                    _ => b.done(set),
+                };
+            }
+        }
+    }
+}
+
+/// 12 comes before all that rule E0.11 says, in T too.
+#[test]
+fn number_12_of_rfid_and_mtmsrd_in_every_state() {
+    for tm in [false, true] {
+        for mut b in in_each_state(true, tm) {
+            for flags in 0..16 {
+                let asked = [flags & 3, flags >> 2 & 1, flags >> 3];
+                let [ts, tm, pr] = asked.map(u64::from);
+                b.m.threads[0].srr1 = ts << 33 | tm << 32 | pr << 14;
+                b.refused(Event::Rfid, 12).refused(mtmsrd(flags), 12);
+            }
         }
     }
 }
@@ -135,6 +171,10 @@ fn number_13_bad_thing() {
             9 => [false, true, true, true],
             10 => [false, true, true, true],
             17 => continue,
+            // TM is 1; SRR1 is 0 and so asks for N with TM = 0.
+            18 => [false, false, true, true],
+            // No state has TS = 3.
+            19 => [true, false, true, true],
             _ => [false; 4],
         };
         for (mut b, bad) in in_each_state(false, true).into_iter().zip(bad) {

@@ -10,7 +10,7 @@ use crate::machine::texasr;
 use crate::{read, write};
 
 /// One event of each kind with operands in range.
-const EACH: [Event; 17] = [
+const EACH: [Event; 19] = [
     Event::Tbegin { r: true },
     Event::Tend { a: true },
     Event::Tabort { ra: 31 },
@@ -48,6 +48,12 @@ const EACH: [Event; 17] = [
     Event::Host {
         pr: true,
         tm: false,
+    },
+    Event::Rfid,
+    Event::Mtmsrd {
+        ts: 3,
+        tm: true,
+        pr: true,
     },
 ];
 

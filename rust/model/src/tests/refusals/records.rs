@@ -54,11 +54,11 @@ fn number_8_kind() {
         record[1] = kind;
         match read(&record) {
             Ok((0, e)) => {
-                assert!((1..=17).contains(&kind));
+                assert!((1..=19).contains(&kind));
                 assert_eq!(e.kind(), kind);
             }
             other => {
-                assert!(!(1..=17).contains(&kind));
+                assert!(!(1..=19).contains(&kind));
                 assert_eq!(other, Err(8));
                 // 8 comes before 9.
                 record[7] = 1;
@@ -90,6 +90,7 @@ fn most(kind: u8) -> [u8; 16] {
     most[6] = match kind {
         1 | 2 | 6 => 1,
         17 => 3,
+        19 => 15,
         _ => 0,
     };
     most
@@ -97,7 +98,7 @@ fn most(kind: u8) -> [u8; 16] {
 
 #[test]
 fn number_9_fields() {
-    for kind in 1..=17 {
+    for kind in 1..=19 {
         each_byte(kind);
     }
 }
