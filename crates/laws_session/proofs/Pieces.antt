@@ -1,19 +1,22 @@
 -- Pieces fed one by one, and the bytes that finish no record.
 use mathlib.Core.Path.{_≡_, refl, sym, ap, _∙_}
-use mathlib.Core.Bool.{Bool, true, false, cond}
+use mathlib.Core.Bool.{Bool, true, false, cond, _&&_, _||_}
 use mathlib.Core.List.{List, [], _∷_, _++_, append-nil, flatten}
-use Prim.Native.Nat.{ℕ, _+_, _*_, _/_, _<_}
+use Prim.Native.Nat.{ℕ, suc, _+_, _-_, _*_, _/_, _^_, _<_}
 use native.Mathlib.Omega.{arith}
-use lib.Dec.{eqb}
-use lib.ListN.{length, take, drop, length-append, length-take}
-use borrow.Author.Tests.{eqb-true, eqb-false}
+use lib.Dec.{eqb, leb, ltb}
+use lib.ListN.{length, getD, take, drop, replicate, length-append, length-take, length-drop, take-append-drop}
+use lib.Seq.{getD-drop, length-take-le}
+use borrow.Author.Tests.{eqb-true, eqb-false, le-ltb}
+use Rattle.base.specs.Below.{all-below}
+use Rattle.base.proofs.Below.{and-left, and-right, all-at}
 use Rattle.machine.specs.Valid.{first-of}
 use Rattle.tape.specs.Tape.{record-size}
 use Rattle.run.specs.Run.{reads, play}
-use Rattle.session.specs.Session.{session, holds, number, Feeding, idle, onto, wrapped, did, feed-on, feed}
+use Rattle.session.specs.Session.{most-held, laid, session, holds, stops-at, place-right, right, number, Feeding, idle, onto, wrapped, did, feed-on, feed}
 use Rattle.session.specs.declared.Session.{Session}
-use Rattle.session.proofs.Laws.{first-zero, then-feed, feed-join}
-use Rattle.laws_session.specs.Pieces.{feeds, FeedsJoin, CuttingsAgree, RestUnread}
+use Rattle.session.proofs.Laws.{first-zero, number-zero, right-held, then-feed, feed-join}
+use Rattle.laws_session.specs.Pieces.{feeds, FeedsJoin, CuttingsAgree, RestUnread, EmptyPiece}
 use Rattle.laws_session.proofs.Kept.{feed-goes, feed-idle, stop-holds, on-kept, session-valid}
 
 -- the answer of a feeding is that of the session which it gives
@@ -78,3 +81,50 @@ rest-unread s mem piece k e h =
     feed-goes s mem piece k e
     ∙ ap (λ (i : ℕ). did (s .count) bs (play (reads bs 0 i) 0 (s .machine) mem)) w
     ∙ (λ j. idle 0 (session 0 (s .machine) (wrapped (c j)) (drop (d j) bs)) mem)
+
+-- ---- a piece of no bytes
+
+all-zero : (l : List ℕ) → ((i : ℕ) → i < length l → _≡_ {A = ℕ} (getD l i 0) 0) → l ≡ replicate (length l) 0
+all-zero [] f = refl
+all-zero (x ∷ l) f = λ j. f 0 (omega arith) j ∷ all-zero l (λ i h. f (suc i) (omega arith)) j
+
+-- the held bytes with zeros behind them are the session's
+module _ (s : Session) (p : right s ≡ true) (l : length (s .bytes) ≡ most-held) where
+  places : all-below (place-right s) most-held ≡ true
+  unfolding right
+  places =
+      and-right (leb (s .held) most-held) (all-below (place-right s) most-held)
+      (and-left (leb (s .held) most-held && all-below (place-right s) most-held) (eqb (s .answer) 0 || (stops-at (s .answer) && eqb (s .held) 0)) p)
+
+  behind-zero : (i : ℕ) → i < length (drop (s .held) (s .bytes)) → _≡_ {A = ℕ} (getD (drop (s .held) (s .bytes)) i 0) 0
+  behind-zero i h =
+      let d = length-drop (s .held) (s .bytes) in
+      let k = s .held + i in
+      let a = all-at (place-right s) most-held k places (omega arith) in
+      let b : ltb k (s .held) ≡ false = le-ltb k (s .held) (omega arith) in
+      getD-drop (s .held) (s .bytes) i 0 ∙ eqb-true _ 0 (simp b at a)
+
+  held-length : length (holds s) ≡ s .held
+  held-length = length-take-le (s .held) (s .bytes) (let h = right-held s p in omega arith)
+
+  zeros-behind : drop (s .held) (s .bytes) ≡ replicate (most-held - length (holds s)) 0
+  zeros-behind =
+      let d = length-drop (s .held) (s .bytes) in
+      let e : length (drop (s .held) (s .bytes)) ≡ most-held - length (holds s) = let h = held-length in omega arith in
+      all-zero (drop (s .held) (s .bytes)) behind-zero ∙ ap (λ (n : ℕ). replicate n 0) e
+
+  laid-back : laid (holds s) ≡ s .bytes
+  laid-back = ap (_++_ (holds s)) (sym zeros-behind) ∙ take-append-drop (s .held) (s .bytes)
+
+pub empty-piece : EmptyPiece
+empty-piece s mem k l h = go (eqb (s .answer) 0) refl
+  where
+    go : (b : Bool) → eqb (s .answer) 0 ≡ b → feed s mem [] ≡ idle (s .answer) s mem
+    go false z = stop-holds s mem [] k (eqb-false _ 0 z)
+    go true z =
+        let p = number-zero s (length mem) k .1 in
+        let e = eqb-true _ 0 z in
+        let c : wrapped (s .count) ≡ s .count = omega arith in
+        rest-unread s mem [] k e (let x = right-held s p in omega arith)
+        ∙ ap (λ (hs : List ℕ). idle 0 (session 0 (s .machine) (wrapped (s .count)) hs) mem) (append-nil (holds s))
+        ∙ (λ j. idle (sym e j) (record { machine = s .machine; count = c j; held = held-length s p l j; answer = sym e j; bytes = laid-back s p l j }) mem)

@@ -12,7 +12,7 @@ use Rattle.machine.specs.declared.Machine.{Machine}
 use Rattle.tape.specs.Tape.{record-size}
 use Rattle.tape.specs.FirstBad.{found, bad-record}
 use Rattle.run.specs.Run.{Result, result, refused, reads, play, run}
-use Rattle.session.specs.Session.{session, holds, number, opened, Feeding, idle, onto, wrapped, feed, close}
+use Rattle.session.specs.Session.{most-held, session, holds, number, opened, Feeding, idle, onto, wrapped, feed, close}
 use Rattle.session.specs.declared.Session.{Session}
 
 -- ---- one piece
@@ -38,6 +38,13 @@ abbrev pub RestUnread : Type 0
 RestUnread =
     (s : Session) (mem piece : List ℕ) → number s (length mem) ≡ 0 → s .answer ≡ 0 → s .held + length piece < record-size
     → feed s mem piece ≡ idle answer.done (session answer.done (s .machine) (wrapped (s .count)) (holds s ++ piece)) mem
+
+-- a piece of no bytes leaves a session as it is (rule Q6). That 15 places are there and the count is below 2^64 is so of each value of the
+-- code's type
+abbrev pub EmptyPiece : Type 0
+EmptyPiece =
+    (s : Session) (mem : List ℕ) → number s (length mem) ≡ 0 → length (s .bytes) ≡ most-held → s .count < 2 ^ 64
+    → feed s mem [] ≡ idle (s .answer) s mem
 
 -- ---- pieces
 
@@ -78,8 +85,8 @@ run-as-read m mem tape =
     cond (not (eqb n 0)) (refused (found n 0) m mem)
     (result (first-of (r .ended .answer) (ragged tape)) (wrapped (r .ended .count)) (r .ended .machine) (r .memory) (r .answers))
 
--- a session over any cutting of a tape is that run: answer, count, index, machine, memory, answers (rule Q9). Any machine may be handed in: both
--- refuse it alike
+-- a session over any cutting of a tape is that run: answer, count, index, machine, memory, answers (rule Q9). Any machine may be handed in:
+-- both refuse it alike
 abbrev pub SessionIsRun : Type 0
 SessionIsRun = (m : Machine) (mem p : List ℕ) (ps : List (List ℕ)) → in-pieces m mem p ps ≡ run-as-read m mem (p ++ flatten ps)
 
@@ -94,8 +101,8 @@ abbrev pub cut-short : Result → Result
 cut-short r =
     record { ended = record { answer = first-of (r .ended .answer) answer.tape-length; count = r .ended .count; index = r .ended .index; machine = r .ended .machine }; memory = r .memory; answers = r .answers }
 
--- bytes that never became a whole record make an answer of 0 a 6 at the close, and nothing else, whatever they are: a wrong first byte is not
--- looked at (rules Q6, Q9)
+-- bytes that never became a whole record make an answer of 0 a 6 at the close, and change nothing else, whatever they are: a wrong first
+-- byte is not looked at (rules Q6, Q9)
 abbrev pub UnfinishedUnread : Type 0
 UnfinishedUnread =
     (m : Machine) (mem tape more p : List ℕ) (ps : List (List ℕ)) → length tape % record-size ≡ 0 → 0 < length more → length more < record-size
