@@ -20,8 +20,8 @@ use Rattle.session.specs.declared.Session.{Session}
 -- feeding a session gives a session again, over the memory that it leaves (rule Q2)
 abbrev pub SessionKept : Type 0
 SessionKept =
-    (s : Session) (mem piece : List ℕ) → number s (length mem) ≡ 0
-    → number (feed s mem piece .fed .session) (length (feed s mem piece .memory)) ≡ 0
+    (s : Session) (mem piece : List ℕ)
+    → number s (length mem) ≡ 0 → number (feed s mem piece .fed .session) (length (feed s mem piece .memory)) ≡ 0
 
 -- a value that is no session is refused by its number, whatever the piece: it is given back, and nothing changes (rule Q4)
 abbrev pub NoSession : Type 0
