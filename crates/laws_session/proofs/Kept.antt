@@ -2,22 +2,20 @@
 use mathlib.Core.Path.{_≡_, refl, sym, ap, _∙_, subst}
 use mathlib.Core.Bool.{Bool, true, false, not, cond, _&&_, _||_, true≢false}
 use mathlib.Core.Logic.{_⊎_, inl, inr, ⊎-elim}
-use mathlib.Core.List.{List, [], _∷_, _++_}
+use mathlib.Core.List.{List, [], _++_}
 use Prim.Native.Nat.{ℕ, zero, suc, _+_, _-_, _*_, _/_, _≤_, _<_}
 use native.Mathlib.Omega.{arith}
 use lib.Dec.{eqb, leb, ltb}
-use lib.ListN.{length, getD, take, drop, replicate, length-drop}
+use lib.ListN.{length, getD, drop, replicate, length-drop}
 use lib.Seq.{getD-append-add, length-take-le}
 use borrow.Author.Tests.{eq-eqb, ne-eqb, eqb-true, eqb-false, le-leb, ltb-false}
-use Rattle.base.specs.Below.{all-below}
 use Rattle.base.proofs.Below.{fork, and-intro, all-from}
-use Rattle.event.specs.Event.{kind, operands-right}
 use Rattle.event.specs.Rows.{kind-right, row}
-use Rattle.event.specs.Event.{event-of}
+use Rattle.event.specs.Event.{kind, operands-right, event-of}
 use Rattle.event.specs.declared.Event.{Event}
 use Rattle.thread.specs.declared.Control.{Control}
 use Rattle.machine.specs.Machine.{thread}
-use Rattle.machine.specs.Valid.{valid, machine-number, first-of}
+use Rattle.machine.specs.Valid.{valid, first-of}
 use Rattle.machine.specs.declared.Machine.{Machine}
 use Rattle.machine.proofs.Validity.{valid-passes, passes-valid}
 use Rattle.refusal.specs.Refusal.{host-in-t, off, forbidden, bad-thing, refused-there, refused-later, refusal}
@@ -27,7 +25,7 @@ use Rattle.step.proofs.Laws.{step-refused}
 use Rattle.tape.specs.Tape.{record-size, first-byte, byte, record-at, fields-at, fixed-zero, unused-clear, judged, of-kind, read}
 use Rattle.tape.specs.declared.Read.{Read}
 use Rattle.tape.specs.declared.Read.the-variants.{Record, Refused}
-use Rattle.run.specs.Run.{goes-on, reads, play}
+use Rattle.run.specs.Run.{goes-on, reads}
 use Rattle.laws_run.specs.Steps.{Stops}
 use Rattle.laws_run.proofs.Steps.{stop-refused}
 use Rattle.laws_run.proofs.Counts.{End, ends}

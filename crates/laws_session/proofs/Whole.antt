@@ -3,12 +3,12 @@ use mathlib.Core.Path.{_≡_, refl, sym, ap, _∙_}
 use mathlib.Core.Bool.{Bool, true, false, cond, not}
 use mathlib.Core.Logic.{⊎-elim}
 use mathlib.Core.List.{List, [], _∷_, _++_, append-nil, flatten}
-use Prim.Native.Nat.{ℕ, zero, suc, _+_, _*_, _/_, _%_, _^_, _≤_, _<_}
+use Prim.Native.Nat.{ℕ, _+_, _*_, _/_, _%_, _^_, _≤_, _<_}
 use native.Mathlib.Omega.{arith}
 use lib.Dec.{eqb}
-use lib.ListN.{length, take, drop, length-append, length-drop}
+use lib.ListN.{length, length-append, length-drop}
 use borrow.Author.Tests.{eq-eqb, ne-eqb, eqb-true, eqb-false}
-use Rattle.machine.specs.Valid.{valid, machine-number, first-of}
+use Rattle.machine.specs.Valid.{machine-number, first-of}
 use Rattle.machine.specs.declared.Machine.{Machine}
 use Rattle.machine.proofs.Validity.{passes-valid}
 use Rattle.tape.specs.Tape.{record-size}
@@ -19,10 +19,10 @@ use Rattle.run.specs.Run.{Result, result, refused, in-front, reads, one, play, 
 use Rattle.run.specs.declared.Ended.{Ended}
 use Rattle.run.proofs.Laws.{one-index, run-unready, run-plays}
 use Rattle.run.proofs.Pieces.{reads-left}
-use Rattle.session.specs.Session.{session, holds, right, number, opened, Feeding, idle, wrapped, rest, behind, did, feed-on, feed, ended, last-answer, close}
+use Rattle.session.specs.Session.{session, number, opened, Feeding, wrapped, rest, behind, did, feed-on, feed, ended, last-answer, close}
 use Rattle.session.specs.declared.Session.{Session}
 use Rattle.session.proofs.Laws.{ran, how}
-use Rattle.laws_session.specs.Pieces.{in-pieces, ragged, run-as-read, SessionIsRun, GoodTapeSame, cut-short, UnfinishedUnread}
+use Rattle.laws_session.specs.Pieces.{ragged, played, run-as-read, SessionIsRun, GoodTapeSame, cut-short, UnfinishedUnread}
 use Rattle.laws_session.proofs.Kept.{session-right, passes, feed-goes, no-session, on-kept}
 use Rattle.laws_session.proofs.Pieces.{feeds-join}
 
@@ -75,10 +75,7 @@ module _ (m : Machine) (mem tape : List ℕ) where
       ap closed (no-session start mem tape (λ w. z (sym k ∙ w)))
       ∙ ap (λ (e : Ended). record { ended = e; memory = mem; answers = [] }) (close-refused start (length mem) n k z)
 
-  played : Result
-  played = result (first-of (r .ended .answer) (ragged tape)) (wrapped (r .ended .count)) (r .ended .machine) (r .memory) (r .answers)
-
-  at-once-played : machine-number m (length mem) ≡ 0 → closed (feed start mem tape) ≡ played
+  at-once-played : machine-number m (length mem) ≡ 0 → closed (feed start mem tape) ≡ played m mem tape
   unfolding opened feed-on played
   at-once-played p =
       let f = did 0 tape r in
@@ -89,13 +86,13 @@ module _ (m : Machine) (mem tape : List ℕ) where
       ∙ (λ j. ended (last-is 0 tape (r .ended) j) (wrapped (c j)) (r .ended .machine)))
 
   at-once : closed (feed start mem tape) ≡ run-as-read m mem tape
-  unfolding run-as-read played
+  unfolding run-as-read
   at-once = go (eqb n 0) refl
     where
       n : ℕ
       n = machine-number m (length mem)
 
-      go : (b : Bool) → eqb n 0 ≡ b → closed (feed start mem tape) ≡ cond (not b) (refused (found n 0) m mem) played
+      go : (b : Bool) → eqb n 0 ≡ b → closed (feed start mem tape) ≡ cond (not b) (refused (found n 0) m mem) (played m mem tape)
       go true q = at-once-played (eqb-true n 0 q)
       go false q = at-once-refused n refl (eqb-false n 0 q)
 
@@ -145,7 +142,7 @@ module _ (m : Machine) (mem tape : List ℕ) where
       }
 
   as-run : bad-record tape .answer ≡ 0 → length tape / record-size < 2 ^ 64 → run-as-read m mem tape ≡ run m mem tape
-  unfolding run-as-read played
+  unfolding run-as-read
   as-run z h = go (eqb n 0) refl
     where
       n : ℕ
@@ -160,8 +157,8 @@ good-tape-same m mem p ps z h = session-is-run m mem p ps ∙ as-run m mem (p ++
 
 -- ---- a record that is not whole
 
-first-thrice : (a : ℕ) → first-of a 6 ≡ first-of (first-of a 0) 6
-first-thrice a = sym (ap (λ (n : ℕ). first-of n 6) (first-zero-last a))
+six-last : (a : ℕ) → first-of a 6 ≡ first-of (first-of a 0) 6
+six-last a = sym (ap (λ (n : ℕ). first-of n 6) (first-zero-last a))
 
 module _ (m : Machine) (mem tape more : List ℕ) (w : length tape % record-size ≡ 0) (lo : 0 < length more) (hi : length more < record-size) where
   whole-same : length (tape ++ more) / record-size ≡ length tape / record-size
@@ -183,10 +180,10 @@ module _ (m : Machine) (mem tape more : List ℕ) (w : length tape % record-size
   played-more =
       (λ j. result (first-of (ran-same j .ended .answer) (ragged-more j)) (wrapped (ran-same j .ended .count)) (ran-same j .ended .machine) (ran-same j .memory) (ran-same j .answers))
       ∙ ap (λ (n : ℕ). result n (wrapped (r m mem tape .ended .count)) (r m mem tape .ended .machine) (r m mem tape .memory) (r m mem tape .answers))
-      (first-thrice (r m mem tape .ended .answer) ∙ ap (λ (n : ℕ). first-of (first-of (r m mem tape .ended .answer) n) 6) (sym ragged-whole))
+      (six-last (r m mem tape .ended .answer) ∙ ap (λ (n : ℕ). first-of (first-of (r m mem tape .ended .answer) n) 6) (sym ragged-whole))
 
   unread : run-as-read m mem (tape ++ more) ≡ cut-short (run-as-read m mem tape)
-  unfolding run-as-read played
+  unfolding run-as-read
   unread = go (eqb n 0) refl
     where
       n : ℕ

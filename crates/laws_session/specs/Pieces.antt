@@ -76,14 +76,18 @@ in-pieces m mem p ps =
 abbrev pub ragged : List ℕ → ℕ
 ragged tape = cond (eqb (length tape % record-size) 0) answer.done answer.tape-length
 
--- one run by the rule from before the whole tape was read first (rule Q9): 1 and 2, then the records, each read as it is reached, so that a
--- bad one stops the run where it stands; and last 6, if none stopped it. The count is a session's, modulo 2^64
+-- the records of a tape, each read as it is reached, so that a bad one stops them where it stands; and last 6, if none stopped them. The
+-- count is a session's, modulo 2^64
+unfoldable pub played : Machine → List ℕ → List ℕ → Result
+played m mem tape =
+    let r = play (reads tape 0 (length tape / record-size)) 0 m mem in
+    result (first-of (r .ended .answer) (ragged tape)) (wrapped (r .ended .count)) (r .ended .machine) (r .memory) (r .answers)
+
+-- one run by the rule from before the whole tape was read first (rule Q9): 1 and 2, then the records
 unfoldable pub run-as-read : Machine → List ℕ → List ℕ → Result
 run-as-read m mem tape =
     let n = machine-number m (length mem) in
-    let r = play (reads tape 0 (length tape / record-size)) 0 m mem in
-    cond (not (eqb n 0)) (refused (found n 0) m mem)
-    (result (first-of (r .ended .answer) (ragged tape)) (wrapped (r .ended .count)) (r .ended .machine) (r .memory) (r .answers))
+    cond (not (eqb n 0)) (refused (found n 0) m mem) (played m mem tape)
 
 -- a session over any cutting of a tape is that run: answer, count, index, machine, memory, answers (rule Q9). Any machine may be handed in:
 -- both refuse it alike
