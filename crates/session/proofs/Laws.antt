@@ -23,7 +23,7 @@ use Rattle.run.proofs.Pieces as pieces
 use Rattle.laws_run.specs.Steps.{Stops}
 use Rattle.laws_run.proofs.Counts.{End, ends}
 use Rattle.session.specs.declared.Session.{Session}
-use Rattle.session.specs.Session.{most-held, laid, session, holds, stops-at, place-right, right, number, Feeding, wrapped, rest, did, feed-on}
+use Rattle.session.specs.Session.{most-held, laid, session, holds, stops-at, place-right, right, number, Feeding, onto, wrapped, rest, did, feed-on}
 
 -- ---- bytes held
 
@@ -173,16 +173,7 @@ module _ (bs : List ℕ) (m : Machine) (mem : List ℕ) where
 
 -- ---- a piece behind another
 
--- what a second piece adds to a first
-abbrev pub onto : Feeding → Feeding → Feeding
-onto a b =
-    record {
-      fed = record { answer = b .fed .answer; finished = a .fed .finished + b .fed .finished; session = b .fed .session };
-      memory = b .memory;
-      answers = a .answers ++ b .answers;
-    }
-
--- it is fed to the session that the first leaves, unless that has stopped
+-- a second piece is fed to the session that the first leaves, unless that has stopped
 abbrev pub then-feed : List ℕ → Feeding → Feeding
 then-feed q a = cond (eqb (a .fed .answer) 0) (onto a (feed-on (a .fed .session) (a .memory) q)) a
 

@@ -66,6 +66,15 @@ pub record Feeding : Type 0 where
 abbrev pub idle : ℕ → Session → List ℕ → Feeding
 idle n s mem = record { fed = record { answer = n; finished = 0; session = s }; memory = mem; answers = [] }
 
+-- a feeding behind another: its answer, session and memory; the records that both finished, and their answers
+abbrev pub onto : Feeding → Feeding → Feeding
+onto a b =
+    record {
+      fed = record { answer = b .fed .answer; finished = a .fed .finished + b .fed .finished; session = b .fed .session };
+      memory = b .memory;
+      answers = a .answers ++ b .answers;
+    }
+
 -- the count of records, modulo 2^64
 abbrev pub wrapped : ℕ → ℕ
 wrapped n = n % 2 ^ 64

@@ -11,9 +11,9 @@ use borrow.Author.Tests.{eq-eqb, ne-eqb}
 use Rattle.machine.specs.Valid.{valid}
 use Rattle.session.specs.declared.Session.{Session}
 use Rattle.session.specs.declared.Fed.{Fed}
-use Rattle.session.specs.Session.{most-held, holds, Feeding, did, feed-on}
+use Rattle.session.specs.Session.{most-held, holds, Feeding, onto, did, feed-on}
 use Rattle.run.proofs.Pieces.{sets-append}
-use Rattle.session.proofs.Laws.{ran, answers-few, onto, then-feed, feed-join, filled-up, feed-keeps}
+use Rattle.session.proofs.Laws.{ran, answers-few, then-feed, feed-join, filled-up, feed-keeps}
 use borrow.Author.Needs.{needs}
 use Rattle.session.proofs.feed_held.Statement.{statement}
 use Rattle.session.proofs.feed_held.Tie as tie

@@ -1,0 +1,3 @@
+pub mod Kept
+pub mod Pieces
+pub mod Whole
