@@ -10,13 +10,13 @@
 _Static_assert(sizeof(struct naszeptan_registers) == 264, "registers");
 _Static_assert(sizeof(struct naszeptan_entry) == 16, "entry");
 _Static_assert(sizeof(struct naszeptan_transaction) == 1096, "transaction");
-_Static_assert(sizeof(struct naszeptan_control) == 40, "control");
-_Static_assert(sizeof(struct naszeptan_thread) == 1672, "thread");
-_Static_assert(sizeof(struct naszeptan_machine) == 6696, "machine");
+_Static_assert(sizeof(struct naszeptan_control) == 56, "control");
+_Static_assert(sizeof(struct naszeptan_thread) == 1688, "thread");
+_Static_assert(sizeof(struct naszeptan_machine) == 6760, "machine");
 _Static_assert(sizeof(struct naszeptan_event) == 16, "event");
-_Static_assert(sizeof(struct naszeptan_done) == 6704, "done");
+_Static_assert(sizeof(struct naszeptan_done) == 6768, "done");
 _Static_assert(offsetof(struct naszeptan_done, failed) == 1, "failed");
-_Static_assert(sizeof(struct naszeptan_ended) == 6720, "ended");
+_Static_assert(sizeof(struct naszeptan_ended) == 6784, "ended");
 _Static_assert(offsetof(struct naszeptan_ended, count) == 8, "count");
 _Static_assert(offsetof(struct naszeptan_ended, index) == 16, "index");
 _Static_assert(sizeof(struct naszeptan_record) == 20, "record");
@@ -53,7 +53,7 @@ static int same_machine(const struct naszeptan_machine *a,
         x->cr0 != y->cr0 || j->nia != k->nia || j->pr != k->pr ||
         j->tm != k->tm || j->state != k->state || j->doomed != k->doomed ||
         j->tfhar != k->tfhar || j->tfiar != k->tfiar ||
-        j->texasr != k->texasr ||
+        j->texasr != k->texasr || j->srr0 != k->srr0 || j->srr1 != k->srr1 ||
         memcmp(&p->reads, &q->reads, sizeof p->reads) != 0 ||
         memcmp(&p->writes, &q->writes, sizeof p->writes) != 0 ||
         p->count != q->count)
@@ -168,7 +168,7 @@ static void refusals(void) {
   struct naszeptan_event none = event(0, 9), unused = event(NASZEPTAN_TEND, 9);
   unused.rb = 1;
   refused(m, NASZEPTAN_MEMORY, none, NASZEPTAN_NO_KIND);
-  refused(m, NASZEPTAN_MEMORY, event(18, 0), NASZEPTAN_NO_KIND);
+  refused(m, NASZEPTAN_MEMORY, event(20, 0), NASZEPTAN_NO_KIND);
   refused(m, NASZEPTAN_MEMORY, unused, NASZEPTAN_FIELD);
   refused(m, 0, none, NASZEPTAN_SIZE);
   refused(m, NASZEPTAN_MEMORY, event(NASZEPTAN_TEND, 4), NASZEPTAN_NO_THREAD);
@@ -487,10 +487,12 @@ static void writer_of_edition_two(void) {
   unused = far;
   unused.rb = 1;
   none = unused;
-  none.kind = 18;
+  none.kind = 20;
   memset(buffer, 0xAA, sizeof buffer);
   for (size_t bytes = 0; bytes <= 17; bytes++) {
     CHECK(naszeptan_write_two(none, buffer, bytes) == NASZEPTAN_NO_KIND);
+    CHECK(naszeptan_write_two(event(NASZEPTAN_RFID, 0), buffer, bytes) ==
+          NASZEPTAN_NO_KIND);
     CHECK(naszeptan_write_two(unused, buffer, bytes) == NASZEPTAN_FIELD);
     CHECK(naszeptan_write_two(far, buffer, bytes) == NASZEPTAN_NO_THREAD);
     CHECK(bytes >= 16 ||
@@ -534,7 +536,7 @@ static void converts(converter *convert, const uint8_t *from,
   memcpy(tape + 16, from, 16);
   tape[16 + 15] = 1;
   not_converted(convert, tape, 32, 32, NASZEPTAN_FIELD, 1);
-  tape[16 + 1] = 18;
+  tape[16 + 1] = 20;
   not_converted(convert, tape, 32, 32, NASZEPTAN_NO_KIND, 1);
   /* 6 comes before 10, and 10 before a record. */
   not_converted(convert, tape, 32, 31, NASZEPTAN_SHORT_BUFFER, 0);
@@ -553,10 +555,40 @@ static void converters(void) {
   not_converted(naszeptan_three_to_two, tape, 16, 16, NASZEPTAN_NO_THREAD, 0);
   tape[7] = 1;
   not_converted(naszeptan_three_to_two, tape, 16, 16, NASZEPTAN_FIELD, 0);
+  /* Nor kinds 18 and 19. */
+  static const uint8_t later[16] = {0xE3, NASZEPTAN_RFID};
+  CHECK(naszeptan_read(later, 16).answer == NASZEPTAN_DONE);
+  not_converted(naszeptan_three_to_two, later, 16, 16, NASZEPTAN_NO_KIND, 0);
+}
+
+/* docs/RULES.md, K14 and K15: an interrupt in T, and back; doomed meanwhile. */
+static void returns(void) {
+  struct naszeptan_machine m = naszeptan_fresh();
+  m.threads[0].control.nia = 0x1000;
+  m = naszeptan_step(m, memory, NASZEPTAN_MEMORY, event(NASZEPTAN_TBEGIN, 0))
+          .machine;
+  m = naszeptan_step(m, memory, NASZEPTAN_MEMORY, load(0, 5, 17)).machine;
+  m = naszeptan_step(m, memory, NASZEPTAN_MEMORY, event(NASZEPTAN_INTERRUPT, 0))
+          .machine;
+  struct naszeptan_control k = m.threads[0].control;
+  CHECK(k.state == NASZEPTAN_S && k.pr == 0 && k.tm == 0 && k.nia == 0x500);
+  CHECK(k.srr0 == 0x1008 && k.srr1 == UINT64_C(0x500004000));
+  struct naszeptan_done back =
+      naszeptan_step(m, memory, NASZEPTAN_MEMORY, event(NASZEPTAN_RFID, 0));
+  k = back.machine.threads[0].control;
+  CHECK(back.answer == NASZEPTAN_DONE && back.failed == 0);
+  CHECK(k.state == NASZEPTAN_T && k.pr == 1 && k.tm == 1 && k.nia == 0x1008);
+  m = naszeptan_step(m, memory, NASZEPTAN_MEMORY, store(1, 0, 16)).machine;
+  back = naszeptan_step(m, memory, NASZEPTAN_MEMORY, event(NASZEPTAN_RFID, 0));
+  k = back.machine.threads[0].control;
+  CHECK(back.answer == NASZEPTAN_HANDLED && back.failed == 1);
+  CHECK(k.state == NASZEPTAN_N && k.pr == 1 && k.tm == 1 && k.nia == 0x1004);
+  CHECK(k.texasr == UINT64_C(0x0008000088000001) && k.tfiar == 0x500);
 }
 
 int main(void) {
   machines();
+  returns();
   bits();
   refusals();
   conflict();

@@ -58,7 +58,7 @@ enum naszeptan_answer {
   NASZEPTAN_TAPE_LENGTH = 6,   /* tape not a multiple of 16 bytes */
   NASZEPTAN_BAD_FIRST_BYTE = 7,/* a record's first byte is not 0xE3; edition two:
                                   above 3 */
-  NASZEPTAN_NO_KIND = 8,       /* kind not 1 to 17 */
+  NASZEPTAN_NO_KIND = 8,       /* kind not 1 to 19 */
   NASZEPTAN_FIELD = 9,         /* an unused field or a fixed byte is not 0, or
                                   flags too big */
   NASZEPTAN_SHORT_BUFFER = 10, /* the writer's buffer has under 16 bytes */
@@ -77,7 +77,7 @@ enum naszeptan_state {
   NASZEPTAN_S = 2  /* Suspended */
 };
 
-/* The seventeen kinds of event, and the fields that each uses. A field that
+/* The nineteen kinds of event, and the fields that each uses. A field that
  * its kind does not use must be 0. */
 enum naszeptan_kind {
   NASZEPTAN_TBEGIN = 1,     /* flags: R */
@@ -96,10 +96,15 @@ enum naszeptan_kind {
   NASZEPTAN_ADDI = 14,      /* x: RT, ra, si */
   NASZEPTAN_DISALLOWED = 15,/* none: any disallowed instruction */
   NASZEPTAN_INTERRUPT = 16, /* none */
-  NASZEPTAN_HOST = 17       /* flags: PR + 2 * TM */
+  NASZEPTAN_HOST = 17,      /* flags: PR + 2 * TM */
+  NASZEPTAN_RFID = 18,      /* none */
+  NASZEPTAN_MTMSRD = 19     /* flags: TS + 4 * TM + 8 * PR; TS 1 is S, 2 is T */
 };
 
-/* The SPRs that mtspr and mfspr know, for the event's x. */
+/* The SPRs that mtspr and mfspr know, for the event's x. With the first two
+ * they are privileged and no TM instruction. */
+#define NASZEPTAN_SPR_SRR0 26
+#define NASZEPTAN_SPR_SRR1 27
 #define NASZEPTAN_SPR_TFHAR 128
 #define NASZEPTAN_SPR_TFIAR 129
 #define NASZEPTAN_SPR_TEXASR 130
@@ -213,7 +218,8 @@ struct naszeptan_transaction {
 };
 
 /* pr, tm and doomed are 0 or 1; state is an enum naszeptan_state. Other
- * values are no machine. TEXASR's bit 0 is the highest of the 64. */
+ * values are no machine. TEXASR's bit 0 is the highest of the 64. An interrupt
+ * saves nia in srr0, and TS, TM and PR in bits 29:30, 31 and 49 of srr1. */
 struct naszeptan_control {
   uint64_t nia;
   uint8_t pr;
@@ -223,6 +229,8 @@ struct naszeptan_control {
   uint64_t tfhar;
   uint64_t tfiar;
   uint64_t texasr;
+  uint64_t srr0;
+  uint64_t srr1;
 };
 
 struct naszeptan_thread {

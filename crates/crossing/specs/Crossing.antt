@@ -35,7 +35,7 @@ no-raw-thread =
       live = no-registers;
       cr0 = 0;
       checkpoint = no-registers;
-      control = record { nia = 0; pr = 0; tm = 0; state = 0; doomed = 0; tfhar = 0; tfiar = 0; texasr = 0 };
+      control = record { nia = 0; pr = 0; tm = 0; state = 0; doomed = 0; tfhar = 0; tfiar = 0; texasr = 0; srr0 = 0; srr1 = 0 };
       transaction = record { reads = no-lines; writes = no-lines; count = 0; log = [] };
     }
 
@@ -54,6 +54,7 @@ control-of k =
       nia = k .nia;
       msr = record { pr = eqb (k .pr) 1; tm = eqb (k .tm) 1; state = state-of (k .state); doomed = eqb (k .doomed) 1 };
       failure = record { tfhar = k .tfhar; tfiar = k .tfiar; texasr = k .texasr };
+      saved = record { srr0 = k .srr0; srr1 = k .srr1 };
     }
 
 unfoldable pub raw-control : Control → RawControl
@@ -67,6 +68,8 @@ raw-control k =
       tfhar = k .failure .tfhar;
       tfiar = k .failure .tfiar;
       texasr = k .failure .texasr;
+      srr0 = k .saved .srr0;
+      srr1 = k .saved .srr1;
     }
 
 unfoldable pub thread-of : RawThread → Thread

@@ -6,6 +6,7 @@ use thread::Control;
 use thread::Failure;
 use thread::Msr;
 use thread::Registers;
+use thread::Saved;
 use thread::State;
 use thread::Thread;
 use transaction::Transaction;
@@ -21,6 +22,8 @@ pub struct RawControl {
     pub tfhar: u64,
     pub tfiar: u64,
     pub texasr: u64,
+    pub srr0: u64,
+    pub srr1: u64,
 }
 
 #[repr(C)]
@@ -96,6 +99,10 @@ fn control_of(k: RawControl) -> Control
             tfiar: k.tfiar,
             texasr: k.texasr,
         },
+        saved: Saved {
+            srr0: k.srr0,
+            srr1: k.srr1,
+        },
     }
 }
 
@@ -104,6 +111,7 @@ fn raw_control(k: Control) -> RawControl
 {
     let m = k.msr;
     let f = k.failure;
+    let v = k.saved;
     let s = m.state;
     RawControl {
         nia: k.nia,
@@ -114,6 +122,8 @@ fn raw_control(k: Control) -> RawControl
         tfhar: f.tfhar,
         tfiar: f.tfiar,
         texasr: f.texasr,
+        srr0: v.srr0,
+        srr1: v.srr1,
     }
 }
 

@@ -10,7 +10,7 @@ use Rattle.event.specs.declared.Fields.{Fields}
 use Rattle.event.specs.declared.rows.Use.{Use}
 use Rattle.event.specs.declared.rows.Use.the-variants.{No, Gpr, To, Bf, Spr}
 use Rattle.event.specs.declared.rows.When.{When}
-use Rattle.event.specs.declared.rows.When.the-variants.{Never, Always}
+use Rattle.event.specs.declared.rows.When.the-variants.{Never, Always, TmSpr, Srr}
 use Rattle.event.specs.declared.rows.Row.{Row}
 
 abbrev pub line : (x ra rb : Use) (flags : ℕ) (index si : Bool) (tm privileged : When) → Row
@@ -29,14 +29,16 @@ rows =
     ∷ line Bf No No 0 false false Always Never  -- 7 tcheck
     ∷ line No Gpr No 0 false false Always Always  -- 8 treclaim.
     ∷ line No No No 0 false false Always Always  -- 9 trechkpt.
-    ∷ line Spr Gpr No 0 false false Always Never  -- 10 mtspr
-    ∷ line Spr Gpr No 0 false false Always Never  -- 11 mfspr: RA is RT
+    ∷ line Spr Gpr No 0 false false TmSpr Srr  -- 10 mtspr
+    ∷ line Spr Gpr No 0 false false TmSpr Srr  -- 11 mfspr: RA is RT
     ∷ line Gpr No No 0 true false Never Never  -- 12 ld
     ∷ line No Gpr No 0 true false Never Never  -- 13 std
     ∷ line Gpr Gpr No 0 false true Never Never  -- 14 addi
     ∷ line No No No 0 false false Never Never  -- 15 a disallowed instruction
     ∷ line No No No 0 false false Never Never  -- 16 interrupt taken
     ∷ line No No No 3 false false Never Never  -- 17 host: PR + 2 x TM
+    ∷ line No No No 0 false false Never Always  -- 18 rfid
+    ∷ line No No No 15 false false Never Always  -- 19 mtmsrd: TS + 4 x TM + 8 x PR
     ∷ []
 
 -- number 8: the kinds are those that have a row
@@ -62,13 +64,20 @@ used To = true
 used Bf = true
 used Spr = true
 
--- number 4: used registers to 31, TO to 31, BF to 7, SPR 128 to 131
+-- SPR 128 to 131 are the failure registers, SPR 26 and 27 are SRR0 and SRR1
+abbrev pub tm-spr : ℕ → Bool
+tm-spr v = leb 128 v && leb v 131
+
+abbrev pub srr : ℕ → Bool
+srr v = leb 26 v && leb v 27
+
+-- number 4: used registers to 31, TO to 31, BF to 7, SPR 26, 27 or 128 to 131
 abbrev pub in-range : Use → ℕ → Bool
 in-range No v = true
 in-range Gpr v = ltb v gprs
 in-range To v = ltb v 32
 in-range Bf v = leb v cr-fields
-in-range Spr v = leb 128 v && leb v 131
+in-range Spr v = srr v || tm-spr v
 
 -- number 4: each used field is in range, and a used index in a memory of len doublewords
 abbrev pub fields-right : Row → Fields → ℕ → Bool
@@ -79,3 +88,5 @@ fields-right r f len =
 abbrev pub holds : When → ℕ → Bool
 holds Never x = false
 holds Always x = true
+holds TmSpr x = tm-spr x
+holds Srr x = srr x

@@ -1,8 +1,8 @@
-// The seventeen kinds of event, each with its operands and nothing else (rules E1 to E17); the fields of each, and a row for each kind.
+// The nineteen kinds of event, each with its operands and nothing else (rules E1 to E19); the fields of each, and a row for each kind.
 pub mod rows;
 
 ghost use mathlib.Core.Path.{_≡_};
-ghost use Prim.Native.Nat.{_≤_};
+ghost use Prim.Native.Nat.{_+_, _*_, _≤_};
 ghost use Rattle.base.specs.Below.{bit};
 ghost use Rattle.event.specs.Rows.{row};
 ghost use Rattle.event.specs.Event.{fields, fields-of, event-of, kind, operands-right, tm-instruction, privileged};
@@ -26,25 +26,76 @@ const NEVER: When = When::Never;
 
 const ALWAYS: When = When::Always;
 
-// Operands take any value of their width: the step refuses what is out of range. The thread is named beside the event.
+const TM_SPR: When = When::TmSpr;
+
+const SRR: When = When::Srr;
+
+// Operands take any value of their width: the step refuses what is out of range. The thread is named beside the event. mtmsrd's T and S are
+// TS in two bits, the higher first.
 pub enum Event {
-    Tbegin { r: bool },
-    Tend { a: bool },
-    Tabort { ra: u8 },
-    Tabortwc { to: u8, ra: u8, rb: u8 },
-    Tabortdc { to: u8, ra: u8, rb: u8 },
-    Tsr { l: bool },
-    Tcheck { bf: u8 },
-    Treclaim { ra: u8 },
+    Tbegin {
+        r: bool,
+    },
+    Tend {
+        a: bool,
+    },
+    Tabort {
+        ra: u8,
+    },
+    Tabortwc {
+        to: u8,
+        ra: u8,
+        rb: u8,
+    },
+    Tabortdc {
+        to: u8,
+        ra: u8,
+        rb: u8,
+    },
+    Tsr {
+        l: bool,
+    },
+    Tcheck {
+        bf: u8,
+    },
+    Treclaim {
+        ra: u8,
+    },
     Trechkpt,
-    Mtspr { spr: u8, ra: u8 },
-    Mfspr { rt: u8, spr: u8 },
-    Ld { rt: u8, index: u32 },
-    Std { ra: u8, index: u32 },
-    Addi { rt: u8, ra: u8, si: u16 },
+    Mtspr {
+        spr: u8,
+        ra: u8,
+    },
+    Mfspr {
+        rt: u8,
+        spr: u8,
+    },
+    Ld {
+        rt: u8,
+        index: u32,
+    },
+    Std {
+        ra: u8,
+        index: u32,
+    },
+    Addi {
+        rt: u8,
+        ra: u8,
+        si: u16,
+    },
     Disallowed,
     Interrupt,
-    Host { pr: bool, tm: bool },
+    Host {
+        pr: bool,
+        tm: bool,
+    },
+    Rfid,
+    Mtmsrd {
+        t: bool,
+        s: bool,
+        tm: bool,
+        pr: bool,
+    },
 }
 
 // Kinds that a refusal names. specs/Event.antt has the same numbers for the definitions.
@@ -58,7 +109,12 @@ pub const MTSPR: u8 = 10;
 
 pub const HOST: u8 = 17;
 
-// What a record holds, whatever its layout. X is SPR, BF or TO, else RT; RA is RT for mfspr; flags are R, A, L or PR + 2 x TM.
+pub const RFID: u8 = 18;
+
+pub const MTMSRD: u8 = 19;
+
+// What a record holds, whatever its layout. X is SPR, BF or TO, else RT; RA is RT for mfspr; flags are R, A, L, PR + 2 x TM or
+// TS + 4 x TM + 8 x PR.
 #[repr(C)]
 pub struct Fields {
     pub kind: u8,
@@ -83,12 +139,14 @@ pub fn row(kind: u8) -> Row
         7 => line(BF, NO, NO, 0, false, false, ALWAYS, NEVER),
         8 => line(NO, GPR, NO, 0, false, false, ALWAYS, ALWAYS),
         9 => line(NO, NO, NO, 0, false, false, ALWAYS, ALWAYS),
-        10..=11 => line(SPR, GPR, NO, 0, false, false, ALWAYS, NEVER),
+        10..=11 => line(SPR, GPR, NO, 0, false, false, TM_SPR, SRR),
         12 => line(GPR, NO, NO, 0, true, false, NEVER, NEVER),
         13 => line(NO, GPR, NO, 0, true, false, NEVER, NEVER),
         14 => line(GPR, GPR, NO, 0, false, true, NEVER, NEVER),
         15..=16 => line(NO, NO, NO, 0, false, false, NEVER, NEVER),
         17 => line(NO, NO, NO, 3, false, false, NEVER, NEVER),
+        18 => line(NO, NO, NO, 0, false, false, NEVER, ALWAYS),
+        19 => line(NO, NO, NO, 15, false, false, NEVER, ALWAYS),
         _ => line(NO, NO, NO, 0, false, false, NEVER, NEVER),
     }
 }
@@ -99,6 +157,13 @@ fn flag(b: bool) -> u8
     ensures { λ r. ⌜ r ≤ 1 ⌝ }
 {
     base::bit(b) as u8
+}
+
+// mtmsrd's flags.
+fn asked_flags(t: bool, s: bool, tm: bool, pr: bool) -> u8
+    ensures { λ r. ⌜ r ≡ bit s + 2 * bit t + 4 * bit tm + 8 * bit pr ⌝ }
+{
+    flag(s) + 2 * flag(t) + 4 * flag(tm) + 8 * flag(pr)
 }
 
 // Fields by their values, in the record's order.
@@ -139,6 +204,10 @@ pub fn fields_of(thread: u8, e: Event) -> Fields
         Event::Disallowed => filled(15, thread, 0, 0, 0, 0, 0, 0),
         Event::Interrupt => filled(16, thread, 0, 0, 0, 0, 0, 0),
         Event::Host { pr, tm } => filled(HOST, thread, 0, 0, 0, flag(pr) + 2 * flag(tm), 0, 0),
+        Event::Rfid => filled(RFID, thread, 0, 0, 0, 0, 0, 0),
+        Event::Mtmsrd { t, s, tm, pr } => {
+            filled(MTMSRD, thread, 0, 0, 0, asked_flags(t, s, tm, pr), 0, 0)
+        }
     }
 }
 
@@ -170,10 +239,18 @@ pub fn event_of(f: Fields) -> Event
         14 => Event::Addi { rt: x, ra, si },
         15 => Event::Disallowed,
         16 => Event::Interrupt,
-        _ => {
+        17 => {
             let pr = flags % 2 == 1;
             let tm = flags / 2 % 2 == 1;
             Event::Host { pr, tm }
+        }
+        18 => Event::Rfid,
+        _ => {
+            let t = flags / 2 % 2 == 1;
+            let s = flags % 2 == 1;
+            let tm = flags / 4 % 2 == 1;
+            let pr = flags / 8 % 2 == 1;
+            Event::Mtmsrd { t, s, tm, pr }
         }
     }
 }

@@ -1,6 +1,6 @@
 // A kind's row: what it uses each field for, and what follows.
 ghost use mathlib.Core.Path.{_≡_};
-ghost use Rattle.event.specs.Rows.{line, used, in-range, fields-right, holds};
+ghost use Rattle.event.specs.Rows.{line, used, tm-spr, srr, in-range, fields-right, holds};
 use crate::Fields;
 use base::CR_FIELDS;
 use base::GPRS;
@@ -14,10 +14,12 @@ pub enum Use {
     Spr,
 }
 
-// Whether a kind is a TM instruction, or privileged: a function of X.
+// Whether a kind is a TM instruction, or privileged: a function of X. Two are for SPR 128 to 131, and for SPR 26 and 27.
 pub enum When {
     Never,
     Always,
+    TmSpr,
+    Srr,
 }
 
 // The fields X, RA and RB, the largest flags, the fields index and SI, and what the kind is.
@@ -70,6 +72,20 @@ pub fn used(u: Use) -> bool
     }
 }
 
+// SPR 128 to 131: the failure registers.
+fn tm_spr(v: u8) -> bool
+    ensures { λ r. ⌜ r ≡ tm-spr v ⌝ }
+{
+    (128 <= v) & (v <= 131)
+}
+
+// SPR 26 and 27: SRR0 and SRR1.
+fn srr(v: u8) -> bool
+    ensures { λ r. ⌜ r ≡ srr v ⌝ }
+{
+    (26 <= v) & (v <= 27)
+}
+
 // A field as its use wants it.
 fn in_range(u: Use, v: u8) -> bool
     ensures { λ r. ⌜ r ≡ in-range u v ⌝ }
@@ -79,7 +95,7 @@ fn in_range(u: Use, v: u8) -> bool
         Use::Gpr => (v as usize) < GPRS,
         Use::To => v < 32,
         Use::Bf => v as usize <= CR_FIELDS,
-        Use::Spr => (128 <= v) & (v <= 131),
+        Use::Spr => srr(v) | tm_spr(v),
     }
 }
 
@@ -103,5 +119,7 @@ pub fn holds(w: When, x: u8) -> bool
     match w {
         When::Never => false,
         When::Always => true,
+        When::TmSpr => tm_spr(x),
+        When::Srr => srr(x),
     }
 }

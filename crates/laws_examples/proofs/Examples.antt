@@ -22,7 +22,7 @@ use Rattle.power_plain.specs.Plain as plain
 use Rattle.power_effect.specs.Effects.{effect}
 use Rattle.machine.specs.Machine.{fresh, fresh-thread}
 use Rattle.machine.specs.Valid as valid
-use Rattle.refusal.specs.Refusal.{bad-thing, refused-there, refused-later, refusal}
+use Rattle.refusal.specs.Refusal.{bad-thing, turned-down, refused-there, refused-later, refusal}
 use Rattle.conflict.specs.Conflict.{hits, struck, strike, others}
 use Rattle.step.specs.Step.{perform, step}
 use Rattle.laws_secrecy.specs.Secrecy.{Alike, tells, Stepping}
@@ -39,7 +39,7 @@ unfolding all-below any-below count-below
     access.ld access.logs access.meets-own access.std plain.addi plain.disallowed plain.interrupt
     fresh fresh-thread
     valid.sized valid.shaped valid.place-right valid.unused-zero valid.aligned valid.cr-small valid.fields-small valid.no-line valid.holds-nothing valid.live-rules valid.state-rules valid.indices-inside valid.line-inside valid.lines-inside valid.unlike valid.distinct valid.logs-line valid.line-logged valid.writes-logged valid.held-right valid.thread-valid valid.clash valid.clear-of valid.apart valid.thread-right valid.threads-right valid.valid valid.machine-number
-    bad-thing refused-there refused-later refusal hits struck strike others perform step tells seen
+    bad-thing turned-down refused-there refused-later refusal hits struck strike others perform step tells seen
 computed = true
 
 -- whatever the values

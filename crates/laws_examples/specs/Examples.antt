@@ -25,7 +25,7 @@ open-thread level pr value x =
       cr0 = 0;
       checkpoint = blank-registers;
       control =
-          record { nia = 0; msr = record { pr = pr; tm = true; state = T; doomed = false }; failure = record { tfhar = 0; tfiar = 0; texasr = level } };
+          record { nia = 0; msr = record { pr = pr; tm = true; state = T; doomed = false }; failure = record { tfhar = 0; tfiar = 0; texasr = level }; saved = record { srr0 = 0; srr1 = 0 } };
       transaction = x;
     }
 

@@ -57,6 +57,8 @@ control-back k h =
       tfhar = k .tfhar;
       tfiar = k .tfiar;
       texasr = k .texasr;
+      srr0 = k .srr0;
+      srr1 = k .srr1;
     }
 
 control-forth : (k : Control) → control-of (raw-control k) ≡ k
@@ -66,6 +68,7 @@ control-forth k =
       nia = k .nia;
       msr = record { pr = bit-test (k .msr .pr) j; tm = bit-test (k .msr .tm) j; state = state-forth (k .msr .state) j; doomed = bit-test (k .msr .doomed) j };
       failure = k .failure;
+      saved = k .saved;
     }
 
 raw-right : (k : Control) → control-right (raw-control k) ≡ true

@@ -1,16 +1,16 @@
 -- The effect of an event that is not refused: its thread is valid, and memory keeps its length.
-use mathlib.Core.Path.{_≡_, refl, ap}
-use mathlib.Core.Bool.{Bool, true, false, true≢false}
+use mathlib.Core.Path.{_≡_, refl, sym, ap, _∙_}
+use mathlib.Core.Bool.{Bool, true, false, true≢false, _||_, or-false}
 use mathlib.Core.Logic.{inl, inr}
 use mathlib.Core.List.{List}
 use Prim.Native.Nat.{ℕ, _%_, _<_}
 use native.Mathlib.Omega.{arith}
 use lib.Dec.{eqb, leb}
 use lib.ListN.{length, length-set}
-use borrow.Author.Tests.{eqb-true, leb-false, not-false}
+use borrow.Author.Tests.{eqb-true, eqb-false, leb-true, leb-false, not-false}
 use Rattle.base.specs.Limits.{lines, most-levels}
 use Rattle.base.specs.Below.{bit}
-use Rattle.base.proofs.Below.{neither, fork, no-number, bit-lt}
+use Rattle.base.proofs.Below.{and-left, and-right, neither, fork, no-number, bit-lt}
 use Rattle.lines.proofs.Laws.{footprint-empty}
 use Rattle.transaction.specs.Transaction as transaction
 use Rattle.transaction.specs.declared.Cause.{Cause}
@@ -18,7 +18,8 @@ use Rattle.transaction.specs.declared.Transaction.{Transaction}
 use Rattle.transaction.specs.declared.Write.{Write}
 use Rattle.transaction.specs.declared.Write.the-variants.{Unwritten, Doubleword, Log}
 use Rattle.transaction.proofs.Laws.{commit-length}
-use Rattle.event.specs.Event.{trechkpt-kind, mtspr-kind, kind, operands-right}
+use Rattle.event.specs.Rows.{row, tm-spr, srr}
+use Rattle.event.specs.Event.{trechkpt-kind, mtspr-kind, kind, operands-right, tm-instruction}
 use Rattle.event.specs.declared.Event.{Event}
 use Rattle.event.specs.declared.Event.the-variants.{Trechkpt, Mtspr}
 use Rattle.event.proofs.Laws.{ld-in, std-in}
@@ -27,13 +28,16 @@ use Rattle.power_access.specs.Access.{tracked, ld-overflows, std-overflows, tak
 use Rattle.power_aborts.specs.Aborts.{tabort, tabort-if}
 use Rattle.power_begins.specs.Begins.{begins, tbegin, commits, tend, moves, tsuspend, tresume, tsr}
 use Rattle.power_reclaims.specs.Reclaims.{check-field, tcheck, treclaim, trechkpt}
-use Rattle.power_special.specs.Special.{put-spr, mtspr}
+use Rattle.power_special.specs.Special.{put-failure, put-spr, mtspr}
+use Rattle.power_returns.specs.Returns.{goes, taking}
 use Rattle.power_plain.specs.Plain.{disallowed, interrupted, interrupt, host}
 use Rattle.power_effect.specs.Effects.{effect}
 use Rattle.power_effect.proofs.Cases.{Works, effect-by}
 use Rattle.power_common.specs.declared.Did.{Did}
 use Rattle.thread.specs.Texasr.{tl, begun}
-use Rattle.thread.specs.Thread.{with-control, with-failure, failed, recording}
+use Rattle.thread.specs.Thread.{with-control, with-failure, with-saved, failed, recording}
+use Rattle.thread.specs.Turns.{table}
+use Rattle.thread.specs.declared.Saved.{Saved}
 use Rattle.thread.specs.declared.State.{State}
 use Rattle.thread.specs.declared.State.the-variants.{N, T, S}
 use Rattle.thread.specs.declared.Failure.{Failure}
@@ -42,7 +46,7 @@ use Rattle.thread.specs.declared.Thread.{Thread}
 use Rattle.thread.specs.declared.Effect.{Effect}
 use Rattle.thread.proofs.Laws.{begun-fs, begun-tl}
 use Rattle.machine.specs.Valid.{memory-sized, thread-valid}
-use Rattle.refusal.specs.Refusal.{host-in-t, off, forbidden, bad-thing, refused-there}
+use Rattle.refusal.specs.Refusal.{host-in-t, off, forbidden, bad-thing, turned-down, refused-there}
 use Rattle.machine.proofs.Validity.{memory-most}
 use Rattle.laws_keeping.proofs.Held.{join-shaped, store-shaped, join-held, store-held, join-footprint, store-footprint}
 use Rattle.laws_keeping.proofs.Fails.{Filed, Addressed, Live, Rules, Right, right, valid, doomed-empty, undoomed-live, empty-holds, handled, failure-t, failure-s}
@@ -54,6 +58,16 @@ unfolding transaction.written
 written-length Unwritten x mem = refl
 written-length (Doubleword i v) x mem = simp length-set
 written-length Log x mem = commit-length mem _ _
+
+-- an SPR that mtspr names is SRR0 or SRR1, unless it is a failure register
+no-other : (spr : ℕ) → (srr spr || tm-spr spr) ≡ true → tm-spr spr ≡ false → eqb spr 26 ≡ false → eqb spr 27 ≡ false → ⊥
+no-other spr o b x y =
+    let z : srr spr ≡ true = sym (or-false (srr spr)) ∙ (simp b at o) in
+    let l = leb-true 26 spr (and-left (leb 26 spr) _ z) in
+    let h = leb-true spr 27 (and-right (leb 26 spr) _ z) in
+    let n = eqb-false spr 26 x in
+    let m = eqb-false spr 27 y in
+    omega arith
 
 -- an index in memory has a line
 pub line-below : (i len : ℕ) → memory-sized len ≡ true → i < len → transaction.line i < lines
@@ -174,34 +188,48 @@ module _ (t : Thread) (len : ℕ) where
       k : Kept (own-recording t (abort-cause t ra))
       k = fork Kept (failed (t .control)) (λ p. (r .file, r .addresses)) (λ p. (r .file, r .addresses))
 
-  -- trechkpt. and mtspr are done only in N
-  trechkpt-fine : (s : State) → bad-thing s (t .control) trechkpt-kind ≡ false → Right s t len → Fine len (trechkpt t)
+  -- trechkpt. is done only in N
+  trechkpt-fine : (s : State) (tm : Bool) → bad-thing s (t .control) trechkpt-kind tm ≡ false → Right s t len → Fine len (trechkpt t)
   unfolding bad-thing trechkpt
-  trechkpt-fine N b r =
+  trechkpt-fine N tm b r =
       valid
       (passed
       (with-controls (with-field (saved r) 0 (omega arith)) _ refl (r .addresses)
       (inl (refl, eqb-true _ 1 (not-false _ b), r .rules .1))))
-  trechkpt-fine T b r = absurd (true≢false b)
-  trechkpt-fine S b r = absurd (true≢false b)
+  trechkpt-fine T tm b r = absurd (true≢false b)
+  trechkpt-fine S tm b r = absurd (true≢false b)
 
-  mtspr-fine : (s : State) (spr ra : ℕ) → bad-thing s (t .control) mtspr-kind ≡ false → Right s t len → Fine len (mtspr t spr ra)
-  unfolding bad-thing mtspr put-spr
-  mtspr-fine N spr ra b r =
+  -- mtspr: SRR0 and SRR1 may be anything
+  module _ {s : State} (r : Right s t len) (spr v : ℕ) where
+    abbrev Ok : Control → Type 0
+    Ok k = Right s (with-control t k) len
+
+    put-fine : (eqb spr 26 ≡ false → eqb spr 27 ≡ false → Ok (with-failure (t .control) (put-failure (t .control .failure) spr v))) → Ok (put-spr (t .control) spr v)
+    unfolding put-spr
+    put-fine f = fork Ok (eqb spr 26) (λ p. kept _) (λ p. fork Ok (eqb spr 27) (λ q. kept _) (λ q. f p q))
+      where
+        kept : (x : Saved) → Ok (with-saved (t .control) x)
+        kept x = with-controls r _ (r .is) (r .addresses) (r .rules)
+
+  -- of the failure registers it is done only in N
+  mtspr-fine : (s : State) (spr ra : ℕ) → (srr spr || tm-spr spr) ≡ true → bad-thing s (t .control) mtspr-kind (tm-spr spr) ≡ false → Right s t len → Fine len (mtspr t spr ra)
+  unfolding bad-thing mtspr put-failure
+  mtspr-fine N spr ra o b r =
       valid
       (passed
-      (fork Ok (eqb spr 128) (λ p. put _ (omega arith))
-      (λ p. fork Ok (eqb spr 129) (λ p. put _ (r .addresses .tfhar))
-      (λ p. fork Ok (eqb spr 130) (λ p. put _ (r .addresses .tfhar))
-      (λ p. put _ (r .addresses .tfhar))))))
+      (put-fine r spr _
+      (λ x y. fork Of (eqb spr 128) (λ p. put _ (omega arith))
+      (λ p. fork Of (eqb spr 129) (λ p. put _ (r .addresses .tfhar))
+      (λ p. fork Of (eqb spr 130) (λ p. put _ (r .addresses .tfhar))
+      (λ p. put _ (r .addresses .tfhar)))))))
     where
-      Ok : Failure → Type 0
-      Ok f = Right N (with-control t (with-failure (t .control) f)) len
+      Of : Failure → Type 0
+      Of f = Right N (with-control t (with-failure (t .control) f)) len
 
-      put : (f : Failure) → f .tfhar % 4 ≡ 0 → Ok f
+      put : (f : Failure) → f .tfhar % 4 ≡ 0 → Of f
       put f h = with-controls r _ (r .is) (record { nia = r .addresses .nia; tfhar = h }) (r .rules)
-  mtspr-fine T spr ra b r = absurd (true≢false b)
-  mtspr-fine S spr ra b r = absurd (true≢false b)
+  mtspr-fine T spr ra o b r = absurd (true≢false b)
+  mtspr-fine S spr ra o b r = valid (passed (put-fine r spr _ (λ x y. absurd (no-other spr o b x y))))
 
   gpr-fine : {s : State} (n v : ℕ) → Right s t len → Fine len (passes (put-gpr t n v))
   gpr-fine n v r = valid (passed (with-gpr r n v))
@@ -247,7 +275,7 @@ module _ (t : Thread) (len : ℕ) where
 
   interrupt-fine : (s : State) → Right s t len → Fine len (interrupt t)
   unfolding interrupt
-  interrupt-fine s r = valid (with-controls r _ (ap interrupted (r .is)) (r .addresses) (go s (r .rules)))
+  interrupt-fine s r = valid (with-controls r _ (ap interrupted (r .is)) (record { nia = refl; tfhar = r .addresses .tfhar }) (go s (r .rules)))
     where
       go : (s : State) → Rules s (t .control .msr .doomed) (t .control .failure .texasr) (t .transaction) → Rules (interrupted s) (t .control .msr .doomed) (t .control .failure .texasr) (t .transaction)
       go N g = g
@@ -258,16 +286,44 @@ module _ (t : Thread) (len : ℕ) where
   unfolding host
   host-fine pr tm r = valid (with-controls r _ (r .is) (r .addresses) (r .rules))
 
-pub not-bad : (k : Control) (e : Event) → refused-there k e ≡ 0 → bad-thing (k .msr .state) k (kind e) ≡ false
+  -- rfid and mtmsrd, by the table: a state that is reached keeps what it asks, and in T a doomed thread handles
+  goes-fine : {s : State} (s' : State) (pr tm : Bool) (at : ℕ) → at % 4 ≡ 0 → Right s t len
+      → Rules s' (t .control .msr .doomed) (t .control .failure .texasr) (t .transaction) → Right s' (goes t s' pr tm at) len
+  goes-fine s' pr tm at h r g = with-controls r _ refl (record { nia = h; tfhar = r .addresses .tfhar }) g
+
+  taking-fine : (s : State) (b c now tm pr : Bool) (at : ℕ) → at % 4 ≡ 0 → Right s t len → Fine len (taking (table s b c now tm) t pr at)
+  unfolding table taking
+  taking-fine N false false now tm pr at h r = valid (goes-fine N pr tm at h r (r .rules))
+  taking-fine N false true now tm pr at h r = valid r
+  taking-fine N true c now tm pr at h r = valid r
+  taking-fine T b c now tm pr at h r = fails-fine t len _ r
+  taking-fine S false false false false pr at h r = valid (goes-fine S pr false at h r (r .rules))
+  taking-fine S false false false true pr at h r = valid r
+  taking-fine S false false true tm pr at h r = valid r
+  taking-fine S false true now tm pr at h r = valid (goes-fine S pr tm at h r (r .rules))
+  taking-fine S true false now false pr at h r = valid r
+  taking-fine S true false now true pr at h r =
+      fork (Fine len) (t .control .msr .doomed)
+      (λ d. valid (handled (goes t T pr true at) len (r .file) (record { nia = h; tfhar = r .addresses .tfhar }) (doomed-empty _ _ _ d (r .rules))))
+      (λ d. valid (goes-fine T pr true at h r (d, undoomed-live _ _ _ d (r .rules))))
+  taking-fine S true true now tm pr at h r = valid r
+
+pub not-bad : (k : Control) (e : Event) → refused-there k e ≡ 0 → bad-thing (k .msr .state) k (kind e) (tm-instruction e) ≡ false
 unfolding refused-there
 not-bad k e p =
-    no-number (bad-thing (k .msr .state) k (kind e)) 12 0
-    (no-number (forbidden k e) 11 _ (no-number (off k e) 10 _ (no-number (host-in-t (k .msr .state) (kind e)) 4 _ p .1) .1) .1) .0
+    neither _ _
+    (no-number (bad-thing (k .msr .state) k (kind e) (tm-instruction e) || turned-down k e) 12 0
+    (no-number (forbidden k e) 11 _ (no-number (off k e) 10 _ (no-number (host-in-t (k .msr .state) (kind e)) 4 _ p .1) .1) .1) .0) .0
+
+-- mtspr names one of its registers
+named : (spr ra len : ℕ) → operands-right (Mtspr spr ra) len ≡ true → (srr spr || tm-spr spr) ≡ true
+unfolding operands-right row kind
+named spr ra len o = and-left _ _ (and-left _ _ (and-left _ _ o))
 
 pub effect-keeps : (e : Event) (t : Thread) (mem : List ℕ) → memory-sized (length mem) ≡ true → thread-valid t (length mem) ≡ true
     → operands-right e (length mem) ≡ true → refused-there (t .control) e ≡ 0
     → thread-valid (effect e t mem .thread) (length mem) ≡ true
-unfolding effect kind tsr
+unfolding effect kind tm-instruction tsr
 effect-keeps e t mem z h o q =
     effect-by Keeps
     (record {
@@ -279,13 +335,14 @@ effect-keeps e t mem z h o q =
       tsr = λ l o q. fork (Fine (length mem)) l (λ p. tresume-fine t _ _ r) (λ p. tsuspend-fine t _ _ r);
       tcheck = λ bf o q. tcheck-fine t _ bf r;
       treclaim = λ ra o q. treclaim-fine t _ ra r;
-      trechkpt = λ o q. trechkpt-fine t _ _ (not-bad _ Trechkpt q) r;
-      mtspr = λ spr ra o q. mtspr-fine t _ _ spr ra (not-bad _ (Mtspr spr ra) q) r;
+      trechkpt = λ o q. trechkpt-fine t _ _ _ (not-bad _ Trechkpt q) r;
+      mtspr = λ spr ra o q. mtspr-fine t _ _ spr ra (named spr ra _ o) (not-bad _ (Mtspr spr ra) q) r;
       ld = λ rt i o q. let l = ld-in rt i _ o .1 in ld-fine t _ i l (line-below i _ z l) _ rt mem r;
       std = λ ra i o q. let l = std-in ra i _ o .1 in std-fine t _ i l (line-below i _ z l) _ _ r;
       disallowed = λ o q. disallowed-fine t _ _ r;
       interrupt = λ o q. interrupt-fine t _ _ r;
       host = λ pr tm o q. host-fine t _ pr tm r;
+      returns = λ e a at m o q. taking-fine t _ _ _ _ _ _ _ _ (m _ (r .addresses .nia)) r;
       registers = λ e g s o q. valid (passed (with-generals r (g t) (s t)));
     })
     e o q

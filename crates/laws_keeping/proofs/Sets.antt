@@ -29,6 +29,9 @@ use Rattle.power_aborts.specs.Aborts.{tabort, tabort-if}
 use Rattle.power_begins.specs.Begins.{tbegin, commits, tend, tsuspend, tresume, tsr}
 use Rattle.power_reclaims.specs.Reclaims.{tcheck, treclaim, trechkpt}
 use Rattle.power_special.specs.Special.{mtspr}
+use Rattle.power_returns.specs.Returns.{taking}
+use Rattle.thread.specs.declared.turns.Turn.{Turn}
+use Rattle.thread.specs.declared.turns.Turn.the-variants.{Bad, Fails, To}
 use Rattle.power_plain.specs.Plain.{disallowed, interrupt, host}
 use Rattle.power_effect.specs.Effects.{effect}
 use Rattle.power_effect.proofs.Cases.{effect-by}
@@ -134,6 +137,14 @@ module _ (t : Thread) where
   disallowed-sheds T = fails-sheds t _
   disallowed-sheds S = inl refl
 
+  taking-sheds : (x : Turn) (pr : Bool) (at : ℕ) → Shed t (taking x t pr at)
+  unfolding taking handling
+  taking-sheds Bad pr at = inl refl
+  taking-sheds Fails pr at = fails-sheds t _
+  taking-sheds (To N tm) pr at = inl refl
+  taking-sheds (To T tm) pr at = fork (Shed t) (t .control .msr .doomed) (λ e. inl refl) (λ e. inl refl)
+  taking-sheds (To S tm) pr at = inl refl
+
   meets-own-sheds : (i : ℕ) → Shed t (meets-own t i)
   unfolding meets-own
   meets-own-sheds i = fork (Shed t) (transaction.touches (t .transaction) (transaction.line i)) (λ e. dooms-sheds t _) (λ e. inl refl)
@@ -180,6 +191,7 @@ effect-leaves e t mem z o =
       disallowed = λ o. shed (disallowed-sheds t (t .control .msr .state));
       interrupt = λ o. shed (inl refl);
       host = λ pr tm o. shed (inl refl);
+      returns = λ e a at m o. shed (taking-sheds t _ _ _);
       registers = λ e g s o. shed (inl refl);
     })
     e o

@@ -31,7 +31,7 @@ use Rattle.laws_keeping.proofs.Sets.{Sheds, sheds-writes, sheds-touches
 -- a record past the count is in N
 pub zero-in-n : (t : Thread) → zero-thread t ≡ true → zero-state (t .control .msr .state) ≡ true
 unfolding zero-thread zero-control zero-msr
-zero-in-n t h = (simp and-eq-true-iff at h) .0 .0 .1 .0 .1 .1
+zero-in-n t h = (simp and-eq-true-iff at h) .0 .0 .1 .0 .0 .1 .1
 
 -- what is empty is not hit
 unhit : (x : Transaction) (touch : Touch) → x ≡ transaction.empty → hits x touch ≡ false

@@ -16,7 +16,7 @@ use Rattle.base.proofs.Below.{and-left, and-right, and-intro, digit-bit}
 use Rattle.event.specs.Rows.{rows, kind-right, row, used}
 use Rattle.event.specs.Event.{fields, fields-of, event-of}
 use Rattle.event.specs.declared.Event.{Event}
-use Rattle.event.specs.declared.Event.the-variants.{Tbegin, Tend, Tabort, Tabortwc, Tabortdc, Tsr, Tcheck, Treclaim, Trechkpt, Mtspr, Mfspr, Ld, Std, Addi, Disallowed, Interrupt, Host}
+use Rattle.event.specs.declared.Event.the-variants.{Tbegin, Tend, Tabort, Tabortwc, Tabortdc, Tsr, Tcheck, Treclaim, Trechkpt, Mtspr, Mfspr, Ld, Std, Addi, Disallowed, Interrupt, Host, Rfid, Mtmsrd}
 use Rattle.event.specs.declared.Fields.{Fields}
 use Rattle.event.specs.declared.rows.Row.{Row}
 use Rattle.tape.specs.Tape.{record-size, first-byte, byte, two, four, fields-at, fixed-zero, bytes, unused-clear, judged, of-kind, read, number, values, write}
@@ -80,6 +80,23 @@ written w (Host true true) = refl
 written w (Host true false) = refl
 written w (Host false true) = refl
 written w (Host false false) = refl
+written w Rfid = refl
+written w (Mtmsrd true true true true) = refl
+written w (Mtmsrd true true true false) = refl
+written w (Mtmsrd true true false true) = refl
+written w (Mtmsrd true true false false) = refl
+written w (Mtmsrd true false true true) = refl
+written w (Mtmsrd true false true false) = refl
+written w (Mtmsrd true false false true) = refl
+written w (Mtmsrd true false false false) = refl
+written w (Mtmsrd false true true true) = refl
+written w (Mtmsrd false true true false) = refl
+written w (Mtmsrd false true false true) = refl
+written w (Mtmsrd false true false false) = refl
+written w (Mtmsrd false false true true) = refl
+written w (Mtmsrd false false true false) = refl
+written w (Mtmsrd false false false true) = refl
+written w (Mtmsrd false false false false) = refl
 
 pub event-kept : EventKept
 event-kept w e =
@@ -96,10 +113,17 @@ each-at P zero k ps lo hi = absurd (omega arith)
 each-at P (suc n) k ps lo hi =
     ⊎-elim (λ e. rw e (ps .1)) (λ l. each-at P n k (ps .0) lo (le-of-suc-le-suc l)) (eq-or-lt-of-le hi)
 
+-- the two low bits of flags, and the four
+abbrev low-two : ℕ → ℕ
+low-two n = bit (eqb (n % 2) 1) + 2 * bit (eqb (n / 2 % 2) 1)
+
+abbrev low-four : ℕ → ℕ
+low-four n = low-two n + 4 * bit (eqb (n / 4 % 2) 1) + 8 * bit (eqb (n / 8 % 2) 1)
+
 -- the flags that an event keeps, by the largest of its row
 abbrev flags-kept : ℕ → ℕ → ℕ
 flags-kept most n =
-    cond (eqb most 0) 0 (cond (eqb most 1) (bit (eqb n 1)) (cond (eqb most 3) (bit (eqb (n % 2) 1) + 2 * bit (eqb (n / 2 % 2) 1)) n))
+    cond (eqb most 0) 0 (cond (eqb most 1) (bit (eqb n 1)) (cond (eqb most 3) (low-two n) (cond (eqb most 15) (low-four n) n)))
 
 -- what an event keeps of its fields: those that its row uses, and its flags
 abbrev kept : Row → ℕ → (w x ra rb n i si : ℕ) → Fields
@@ -111,7 +135,7 @@ Keeps k = (λ w x ra rb n i si. fields-of w (event-of (fields k w x ra rb n i si
 
 keeps : Each Keeps (length rows)
 unfolding row event-of fields-of
-keeps = (((((((((((((((((tt, refl), refl), refl), refl), refl), refl), refl), refl), refl), refl), refl), refl), refl), refl), refl), refl), refl)
+keeps = (((((((((((((((((((tt, refl), refl), refl), refl), refl), refl), refl), refl), refl), refl), refl), refl), refl), refl), refl), refl), refl), refl), refl)
 
 -- what is 0 unless it is used
 used-kept : (u : Bool) (v : ℕ) → (u || eqb v 0) ≡ true → cond u v 0 ≡ v
@@ -119,22 +143,31 @@ used-kept true v p = refl
 used-kept false v p = sym (eqb-true v 0 p)
 
 -- flags of two bits
-two-bits : (n : ℕ) → n ≤ 3 → bit (eqb (n % 2) 1) + 2 * bit (eqb (n / 2 % 2) 1) ≡ n
+two-bits : (n : ℕ) → n ≤ 3 → low-two n ≡ n
 two-bits zero h = refl
 two-bits (suc zero) h = refl
 two-bits (suc (suc zero)) h = refl
 two-bits (suc (suc (suc zero))) h = refl
 two-bits (suc (suc (suc (suc n)))) h = absurd (omega arith)
 
+-- and of four
+four-bits : (n : ℕ) → n ≤ 15 → low-four n ≡ n
+four-bits zero h = refl
+four-bits (suc n) h =
+    each-at (λ k. low-four k ≡ k) 15 (suc n)
+    (((((((((((((((tt, refl), refl), refl), refl), refl), refl), refl), refl), refl), refl), refl), refl), refl), refl), refl)
+    (omega arith) h
+
 flags-back : (most n : ℕ) → n ≤ most → flags-kept most n ≡ n
-flags-back most n h = go (eqb most 0) (eqb most 1) (eqb most 3) refl refl refl
+flags-back most n h = go (eqb most 0) (eqb most 1) (eqb most 3) (eqb most 15) refl refl refl refl
   where
-    go : (a b c : Bool) → eqb most 0 ≡ a → eqb most 1 ≡ b → eqb most 3 ≡ c
-        → cond a 0 (cond b (bit (eqb n 1)) (cond c (bit (eqb (n % 2) 1) + 2 * bit (eqb (n / 2 % 2) 1)) n)) ≡ n
-    go true b c p q r = let z = eqb-true most 0 p in omega arith
-    go false true c p q r = let z = eqb-true most 1 q in digit-bit n (omega arith)
-    go false false true p q r = let z = eqb-true most 3 r in two-bits n (omega arith)
-    go false false false p q r = refl
+    go : (a b c d : Bool) → eqb most 0 ≡ a → eqb most 1 ≡ b → eqb most 3 ≡ c → eqb most 15 ≡ d
+        → cond a 0 (cond b (bit (eqb n 1)) (cond c (low-two n) (cond d (low-four n) n))) ≡ n
+    go true b c d p q r s = let z = eqb-true most 0 p in omega arith
+    go false true c d p q r s = let z = eqb-true most 1 q in digit-bit n (omega arith)
+    go false false true d p q r s = let z = eqb-true most 3 r in two-bits n (omega arith)
+    go false false false true p q r s = let z = eqb-true most 15 s in four-bits n (omega arith)
+    go false false false false p q r s = refl
 
 -- all six tests of unused-clear
 six : (a b c d e g : Bool) → (a && b && c && d && e && g) ≡ true

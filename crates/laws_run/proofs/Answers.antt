@@ -24,6 +24,9 @@ use Rattle.power_begins.specs.Begins.{tbegin, commits, tend, tsuspend, tresume,
 use Rattle.power_reclaims.specs.Reclaims.{tcheck, treclaim, trechkpt}
 use Rattle.power_special.specs.Special.{mtspr}
 use Rattle.power_plain.specs.Plain.{disallowed, interrupt, host}
+use Rattle.power_returns.specs.Returns.{taking}
+use Rattle.thread.specs.declared.turns.Turn.{Turn}
+use Rattle.thread.specs.declared.turns.Turn.the-variants.{Bad, Fails, To}
 use Rattle.power_effect.specs.Effects.{effect}
 use Rattle.power_effect.proofs.Cases.{effect-by}
 use Rattle.power_common.specs.declared.Did.{Did}
@@ -97,6 +100,14 @@ disallowed-done N t = refl
 disallowed-done T t = fails-done t _
 disallowed-done S t = refl
 
+taking-done : (x : Turn) (t : Thread) (pr : Bool) (at : ℕ) → Done (taking x t pr at)
+unfolding taking
+taking-done Bad t pr at = refl
+taking-done Fails t pr at = fails-done t _
+taking-done (To N tm) t pr at = refl
+taking-done (To T tm) t pr at = fork Done (t .control .msr .doomed) (λ e. refl) (λ e. refl)
+taking-done (To S tm) t pr at = refl
+
 pub effect-done : (e : Event) (t : Thread) (mem : List ℕ) → Does (effect e t mem)
 unfolding effect tsr tcheck treclaim trechkpt mtspr interrupt host
 effect-done e t mem =
@@ -117,6 +128,7 @@ effect-done e t mem =
       disallowed = disallowed-done (t .control .msr .state) t;
       interrupt = refl;
       host = λ pr tm. refl;
+      returns = λ e a at m. taking-done _ t _ _;
       registers = λ e g s. refl;
     })
     e

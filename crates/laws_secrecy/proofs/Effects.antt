@@ -28,7 +28,8 @@ use Rattle.thread.specs.declared.State.the-variants.{N, T, S}
 use Rattle.thread.specs.declared.Control.{Control}
 use Rattle.thread.specs.declared.Thread.{Thread}
 use Rattle.thread.specs.declared.Effect.{Effect}
-use Rattle.event.specs.Event.{trechkpt-kind, mtspr-kind, kind}
+use Rattle.event.specs.Rows.{tm-spr}
+use Rattle.event.specs.Event.{trechkpt-kind, mtspr-kind, kind, tm-instruction}
 use Rattle.event.specs.declared.Event.{Event}
 use Rattle.event.specs.declared.Event.the-variants.{Trechkpt, Mtspr}
 use Rattle.power_common.specs.Common.{did, doing, quiet, passes, gpr, fails, abort-cause}
@@ -37,6 +38,9 @@ use Rattle.power_aborts.specs.Aborts.{tabort}
 use Rattle.power_begins.specs.Begins.{tbegin, commits, tend, tresume, tsr}
 use Rattle.power_reclaims.specs.Reclaims.{tcheck, treclaim}
 use Rattle.power_plain.specs.Plain.{disallowed, host}
+use Rattle.power_returns.specs.Returns.{taking}
+use Rattle.thread.specs.Turns.{table}
+use Rattle.thread.specs.declared.turns.Asked.{Asked}
 use Rattle.power_effect.specs.Effects.{effect}
 use Rattle.power_effect.proofs.Cases.{effect-by}
 use Rattle.power_common.specs.declared.Did.{Did}
@@ -100,7 +104,7 @@ unfolding handling recording transaction.discard
 failure-same t r f es z cause exact at = simp z
 
 -- a Bad Thing is refused
-barred : (k : Control) (e : Event) → bad-thing (k .msr .state) k (kind e) ≡ true → refused-there k e ≡ 0 → ⊥
+barred : (k : Control) (e : Event) → bad-thing (k .msr .state) k (kind e) (tm-instruction e) ≡ true → refused-there k e ≡ 0 → ⊥
 barred k e b o = true≢false (sym b ∙ not-bad k e o)
 
 module _ (t : Thread) (r : Registers) (f : ℕ) (es : List Entry) (p : t .control .msr .state ≡ T) (z : failed (t .control) ≡ false)
@@ -185,12 +189,18 @@ module _ (t : Thread) (r : Registers) (f : ℕ) (es : List Entry) (p : t .contro
   unfolding disallowed
   disallowed-even = falls _
 
+  -- rfid and mtmsrd fail the transaction, whatever they ask for
+  returns-even : (a : Asked) (at : ℕ) → let x = table T (a .t) (a .s) (t .control .msr .tm) (a .tm) in
+      Evenly (taking x t (a .pr) at) (taking x (beside t r f es) (a .pr) at)
+  unfolding taking table
+  returns-even a at = falls _
+
   -- what is so in T is so in the thread's state
   here : (P : State → Type 0) → P T → P (t .control .msr .state)
   here P h = subst P (sym p) h
 
   effect-even : (e : Event) (mem : List ℕ) → tells e t ≡ false → refused-there (t .control) e ≡ 0 → EvenEffect (effect e t mem) (effect e (beside t r f es) mem)
-  unfolding effect tells kind bad-thing tsr host
+  unfolding effect tells kind tm-instruction bad-thing tsr host
   effect-even e mem n o =
       effect-by (λ e does. tells e t ≡ false → refused-there (t .control) e ≡ 0 → EvenEffect (does t mem) (does (beside t r f es) mem))
       (record {
@@ -204,13 +214,14 @@ module _ (t : Thread) (r : Registers) (f : ℕ) (es : List Entry) (p : t .contro
         tsr = λ l n o. simp (not-false l n) (here (λ s. Evenly (tresume s t) (tresume s (beside t r f es))) tresume-even);
         tcheck = λ bf n o. tcheck-even bf;
         treclaim = λ ra n o. treclaim-even ra (not-false _ n);
-        trechkpt = λ n o. absurd (barred (t .control) Trechkpt (here (λ s. bad-thing s (t .control) trechkpt-kind ≡ true) refl) o);
-        mtspr = λ spr ra n o. absurd (barred (t .control) (Mtspr spr ra) (here (λ s. bad-thing s (t .control) mtspr-kind ≡ true) refl) o);
+        trechkpt = λ n o. absurd (barred (t .control) Trechkpt (here (λ s. bad-thing s (t .control) trechkpt-kind true ≡ true) refl) o);
+        mtspr = λ spr ra n o. absurd (barred (t .control) (Mtspr spr ra) (here (λ s. bad-thing s (t .control) mtspr-kind (tm-spr spr) ≡ true) refl) o);
         ld = λ rt i n o. here (λ s. EvenEffect (ld s t rt i mem) (ld s (beside t r f es) rt i mem)) (ld-even rt i mem);
         std = λ ra i n o. here (λ s. EvenEffect (std s t (gpr t ra) i) (std s (beside t r f es) (gpr (beside t r f es) ra) i)) (std-even _ _ i);
         disallowed = λ n o. here (λ s. Evenly (disallowed s t) (disallowed s (beside t r f es))) disallowed-even;
         interrupt = λ n o. absurd (true≢false n);
         host = λ pr tm n o. goes p q;
+        returns = λ e a at m n o. here (λ s. let g = a (t .control) in Evenly (taking (table s (g .t) (g .s) (t .control .msr .tm) (g .tm)) t (g .pr) (at (t .control))) (taking (table s (g .t) (g .s) (t .control .msr .tm) (g .tm)) (beside t r f es) (g .pr) (at (t .control)))) (returns-even (a (t .control)) (at (t .control)));
         registers = λ e g s n o. goes p q;
       })
       e n o

@@ -10,7 +10,7 @@ use Rattle.transaction.specs.Transaction.{entry}
 use Rattle.thread.specs.declared.State.the-variants.{T}
 use Rattle.thread.specs.declared.Thread.{Thread}
 use Rattle.event.specs.declared.Event.{Event}
-use Rattle.event.specs.declared.Event.the-variants.{Tbegin, Tend, Tabort, Tabortwc, Tabortdc, Tsr, Tcheck, Treclaim, Trechkpt, Mtspr, Mfspr, Ld, Std, Addi, Disallowed, Interrupt, Host}
+use Rattle.event.specs.declared.Event.the-variants.{Tbegin, Tend, Tabort, Tabortwc, Tabortdc, Tsr, Tcheck, Treclaim, Trechkpt, Mtspr, Mfspr, Ld, Std, Addi, Disallowed, Interrupt, Host, Rfid, Mtmsrd}
 use Rattle.power_begins.specs.Begins.{commits}
 use Rattle.machine.specs.Machine.{thread}
 use Rattle.machine.specs.Valid.{valid}
@@ -54,6 +54,8 @@ tells (Addi rt ra si) t = false
 tells Disallowed t = false
 tells Interrupt t = true
 tells (Host pr tm) t = false
+tells Rfid t = false
+tells (Mtmsrd b29 b30 tm pr) t = false
 
 -- the transaction of thread w is still open: it has not failed and was not reclaimed
 abbrev pub open-at : ℕ → Outcome → Bool

@@ -20,7 +20,7 @@ use Rattle.power_plain.specs.Plain.{addi, disallowed, host}
 use Rattle.power_effect.specs.Effects.{effect}
 use Rattle.machine.specs.Machine.{fresh, fresh-thread}
 use Rattle.machine.specs.Valid as valid
-use Rattle.refusal.specs.Refusal.{bad-thing, refused-there, refused-later}
+use Rattle.refusal.specs.Refusal.{bad-thing, turned-down, refused-there, refused-later}
 use Rattle.conflict.specs.Conflict.{hits, struck, strike, others}
 use Rattle.step.specs.Step.{Outcome, outcome, perform, step}
 use Rattle.step.specs.Feed.{Fed, after}
@@ -63,8 +63,8 @@ unfolding all-below any-below count-below
     recording handling felled kind operands-right tm-instruction privileged fails dooms compare.picked compare.holds
     effect tbegin tabort tabort-if tsuspend tsr ld logs meets-own std addi disallowed host
     fresh fresh-thread
-    valid.sized valid.shaped valid.place-right valid.unused-zero valid.aligned valid.cr-small valid.fields-small valid.no-line valid.holds-nothing valid.live-rules valid.state-rules valid.indices-inside valid.line-inside valid.lines-inside valid.unlike valid.distinct valid.logs-line valid.line-logged valid.writes-logged valid.held-right valid.thread-valid valid.zero-gpr valid.zero-cr valid.zero-msr valid.zero-failure valid.zero-control valid.zero-thread valid.clash valid.clear-of valid.apart valid.thread-right valid.threads-right valid.valid
-    bad-thing refused-there refused-later hits struck strike others perform met all-met told-valid
+    valid.sized valid.shaped valid.place-right valid.unused-zero valid.aligned valid.cr-small valid.fields-small valid.no-line valid.holds-nothing valid.live-rules valid.state-rules valid.indices-inside valid.line-inside valid.lines-inside valid.unlike valid.distinct valid.logs-line valid.line-logged valid.writes-logged valid.held-right valid.thread-valid valid.zero-gpr valid.zero-cr valid.zero-msr valid.zero-failure valid.zero-saved valid.zero-control valid.zero-thread valid.clash valid.clear-of valid.apart valid.thread-right valid.threads-right valid.valid
+    bad-thing turned-down refused-there refused-later hits struck strike others perform met all-met told-valid
 computed = true
 
 -- a case of a valid machine: what is computed of it, and what is promised

@@ -15,7 +15,7 @@ use Rattle.machine.specs.declared.Machine.{Machine}
 -- control registers all zero but PR and TM: of a fresh thread, and of a record that is not there
 abbrev pub initial-control : Bool → Bool → Control
 initial-control pr tm =
-    record { nia = 0; msr = record { pr = pr; tm = tm; state = N; doomed = false }; failure = record { tfhar = 0; tfiar = 0; texasr = 0 } }
+    record { nia = 0; msr = record { pr = pr; tm = tm; state = N; doomed = false }; failure = record { tfhar = 0; tfiar = 0; texasr = 0 }; saved = record { srr0 = 0; srr1 = 0 } }
 
 -- what an index past the end of the records gives
 abbrev pub no-registers : Registers

@@ -18,6 +18,7 @@ use Rattle.thread.specs.declared.State.{State}
 use Rattle.thread.specs.declared.State.the-variants.{N, T, S}
 use Rattle.thread.specs.declared.Msr.{Msr}
 use Rattle.thread.specs.declared.Failure.{Failure}
+use Rattle.thread.specs.declared.Saved.{Saved}
 use Rattle.thread.specs.declared.Control.{Control}
 use Rattle.thread.specs.declared.Thread.{Thread}
 use Rattle.machine.specs.Machine.{thread}
@@ -134,8 +135,11 @@ zero-msr m = not (m .pr) && not (m .tm) && not (m .doomed) && zero-state (m .sta
 unfoldable pub zero-failure : Failure → Bool
 zero-failure f = eqb (f .tfhar) 0 && eqb (f .tfiar) 0 && eqb (f .texasr) 0
 
+unfoldable pub zero-saved : Saved → Bool
+zero-saved s = eqb (s .srr0) 0 && eqb (s .srr1) 0
+
 unfoldable pub zero-control : Control → Bool
-zero-control k = eqb (k .nia) 0 && zero-msr (k .msr) && zero-failure (k .failure)
+zero-control k = eqb (k .nia) 0 && zero-msr (k .msr) && zero-failure (k .failure) && zero-saved (k .saved)
 
 unfoldable pub zero-thread : Thread → Bool
 zero-thread t =

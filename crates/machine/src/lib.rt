@@ -12,6 +12,7 @@ use thread::Control;
 use thread::Failure;
 use thread::Msr;
 use thread::Registers;
+use thread::Saved;
 use thread::State;
 use thread::Thread;
 
@@ -42,6 +43,7 @@ pub fn fresh() -> Machine
             tfiar: 0,
             texasr: 0,
         },
+        saved: Saved { srr0: 0, srr1: 0 },
     };
     let t = Thread {
         live: zeros,

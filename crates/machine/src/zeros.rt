@@ -1,6 +1,6 @@
 // A thread record past the count: all zero (rule V3).
 ghost use mathlib.Core.Path.{_≡_};
-ghost use Rattle.machine.specs.Valid.{zero-gpr, zero-cr, zero-registers, zero-msr, zero-failure, zero-control, zero-thread};
+ghost use Rattle.machine.specs.Valid.{zero-gpr, zero-cr, zero-registers, zero-msr, zero-failure, zero-saved, zero-control, zero-thread};
 use crate::held;
 use base::CR_FIELDS;
 use base::GPRS;
@@ -8,6 +8,7 @@ use thread::Control;
 use thread::Failure;
 use thread::Msr;
 use thread::Registers;
+use thread::Saved;
 use thread::State;
 use thread::Thread;
 
@@ -72,6 +73,12 @@ fn zero_failure(f: Failure) -> bool
     (f.tfhar == 0) & (f.tfiar == 0) & (f.texasr == 0)
 }
 
+fn zero_saved(s: Saved) -> bool
+    ensures { λ r. ⌜ r ≡ zero-saved s ⌝ }
+{
+    (s.srr0 == 0) & (s.srr1 == 0)
+}
+
 fn zero_control(k: Control) -> bool
     ensures { λ r. ⌜ r ≡ zero-control k ⌝ }
 {
@@ -83,7 +90,11 @@ fn zero_control(k: Control) -> bool
         return false;
     }
     let f = k.failure;
-    zero_failure(f)
+    if !zero_failure(f) {
+        return false;
+    }
+    let s = k.saved;
+    zero_saved(s)
 }
 
 // A thread record past the count: all zero.

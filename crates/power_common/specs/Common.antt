@@ -1,6 +1,6 @@
 -- What the events on one thread share (rules E0.1 to E0.10): the next address, CR0 from state, the thread's own failure.
 use Prim.Native.Nat.{ℕ, _+_, _*_, _%_, _^_}
-use mathlib.Core.Bool.{true, cond}
+use mathlib.Core.Bool.{Bool, true, cond}
 use lib.ListN.{getD, set}
 use lib.Dec.{eqb}
 use Rattle.base.specs.Answers as answer
@@ -11,8 +11,9 @@ use Rattle.transaction.specs.declared.Touch.the-variants.{Untouched}
 use Rattle.transaction.specs.declared.Write.{Write}
 use Rattle.transaction.specs.declared.Write.the-variants.{Unwritten}
 use Rattle.thread.specs.Thread.{with-live, with-cr0, with-control, with-nia, with-texasr, failed, recording, handling}
+use Rattle.thread.specs.Turns.{ts}
 use Rattle.thread.specs.declared.State.{State}
-use Rattle.thread.specs.declared.State.the-variants.{N, T, S}
+use Rattle.thread.specs.declared.Msr.{Msr}
 use Rattle.thread.specs.declared.Thread.{Thread}
 use Rattle.thread.specs.declared.Effect.{Effect}
 use Rattle.power_common.specs.declared.Did.{Did}
@@ -39,12 +40,6 @@ advance t = with-control t (with-nia (t .control) (next (t .control .nia)))
 abbrev pub passes : Thread → Did
 passes t = did answer.done (advance t)
 
--- the state as two bits
-abbrev pub ts : State → ℕ
-ts N = 0b00
-ts T = 0b10
-ts S = 0b01
-
 -- CR0 from state: 0, the two TS bits, 0
 abbrev pub ts-field : State → ℕ
 ts-field s = 2 * ts s
@@ -59,6 +54,10 @@ cr0-only t = passes (cr0-from-state t)
 -- the same with TEXASR anew, for a level up or down
 abbrev pub leveled : Thread → ℕ → Did
 leveled t x = passes (cr0-from-state (with-control t (with-texasr (t .control) x)))
+
+-- the machine state with a state, PR and TM anew; TDOOMED stays
+abbrev pub put-msr : Msr → State → Bool → Bool → Msr
+put-msr m s pr tm = record { pr = pr; tm = tm; state = s; doomed = m .doomed }
 
 -- general register r, and the thread with a value in it
 abbrev pub gpr : Thread → ℕ → ℕ

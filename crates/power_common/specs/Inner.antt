@@ -7,11 +7,12 @@ use lib.ListN.{getD}
 use Rattle.lines.specs.Lines as lineset
 use Rattle.transaction.specs.declared.Cause.{Cause}
 use Rattle.transaction.specs.declared.Cause.the-variants.{Abort}
-use Rattle.thread.specs.Thread.{with-nia, with-failure, with-texasr, in-state, failed, noted}
+use Rattle.thread.specs.Thread.{with-nia, with-msr, with-failure, with-texasr, in-state, failed, noted}
+use Rattle.thread.specs.declared.State.{State}
 use Rattle.thread.specs.declared.State.the-variants.{N}
 use Rattle.rows.specs.Rows.{with-control, with-cr0}
 use Rattle.rows.specs.declared.Head.{Head}
-use Rattle.power_common.specs.Common.{next, ts-field}
+use Rattle.power_common.specs.Common.{next, ts-field, put-msr}
 
 -- on behind the instruction
 abbrev pub advanced : Head → Head
@@ -27,6 +28,10 @@ shown h = advanced (told h)
 -- the same with TEXASR anew
 abbrev pub leveled : Head → ℕ → Head
 leveled h x = shown (with-control h (with-texasr (h .control) x))
+
+-- a state, PR and TM anew
+abbrev pub set-to : Head → State → Bool → Bool → Head
+set-to h s pr tm = with-control h (with-msr (h .control) (put-msr (h .control .msr) s pr tm))
 
 -- a cause recorded, only if FS = 0
 unfoldable pub recorded : Head → Cause → Bool → Head

@@ -6,12 +6,13 @@ ghost use Rattle.base.specs.Limits.{gprs};
 ghost use Rattle.thread.specs.Thread.{recording, handling};
 ghost use Rattle.rows.specs.Rows.{head-of, thread-with, standing};
 ghost use Rattle.power_common.specs.Common.{did, fails, dooms};
-ghost use Rattle.power_common.specs.Inner.{advanced, told, shown, leveled, recorded, handled, row-or-0, row-cause};
+ghost use Rattle.power_common.specs.Inner.{advanced, told, shown, leveled, set-to, recorded, handled, row-or-0, row-cause};
 use base::CR_FIELDS;
 use base::GPRS;
 use base::answer;
 use rows::HEAD;
 use rows::Head;
+use thread::Msr;
 use thread::State;
 use transaction::Cause;
 
@@ -56,6 +57,24 @@ pub fn leveled(h: Head, x: u64) -> Head
     let mut g = h;
     g.control = k;
     shown(g)
+}
+
+// The head in a state, with PR and TM.
+pub fn set_to(h: Head, s: State, pr: bool, tm: bool) -> Head
+    ensures { λ g. ⌜ g ≡ set-to h s pr tm ⌝ }
+{
+    let mut k = h.control;
+    let m = k.msr;
+    let msr = Msr {
+        pr,
+        tm,
+        state: s,
+        doomed: m.doomed,
+    };
+    k.msr = msr;
+    let mut g = h;
+    g.control = k;
+    g
 }
 
 // A cause recorded for the thread's NIA, only if FS = 0: a second failure leaves the first.

@@ -3,16 +3,21 @@
 use mathlib.Core.Path.{_≡_, refl}
 use mathlib.Core.Bool.{Bool}
 use mathlib.Core.List.{List}
-use Prim.Native.Nat.{ℕ}
+use Prim.Native.Nat.{ℕ, _-_, _%_}
+use native.Mathlib.Omega.{arith}
 use lib.ListN.{length, set, length-set}
 use Rattle.thread.specs.Thread.{with-live}
+use Rattle.thread.specs.Turns.{asked, by-srr1}
+use Rattle.thread.specs.declared.turns.Asked.{Asked}
+use Rattle.thread.specs.declared.Control.{Control}
 use Rattle.thread.specs.declared.Thread.{Thread}
 use Rattle.thread.specs.declared.Effect.{Effect}
 use Rattle.event.specs.declared.Event.{Event}
-use Rattle.event.specs.declared.Event.the-variants.{Tbegin, Tend, Tabort, Tabortwc, Tabortdc, Tsr, Tcheck, Treclaim, Trechkpt, Mtspr, Mfspr, Ld, Std, Addi, Disallowed, Interrupt, Host}
-use Rattle.power_common.specs.Common.{quiet, passes}
+use Rattle.event.specs.declared.Event.the-variants.{Tbegin, Tend, Tabort, Tabortwc, Tabortdc, Tsr, Tcheck, Treclaim, Trechkpt, Mtspr, Mfspr, Ld, Std, Addi, Disallowed, Interrupt, Host, Rfid, Mtmsrd}
+use Rattle.power_common.specs.Common.{quiet, next, passes}
 use Rattle.power_special.specs.Special.{mfspr}
 use Rattle.power_plain.specs.Plain.{addi}
+use Rattle.power_returns.specs.Returns.{returning, rfid, mtmsrd}
 use Rattle.power_effect.specs.Effects.{effect}
 
 -- what an event does to any thread over any memory
@@ -39,11 +44,13 @@ pub record Cases (P : Event → Works → Type 0) : Type 0 where
   pub disallowed : P Disallowed (effect Disallowed)
   pub interrupt : P Interrupt (effect Interrupt)
   pub host : (pr tm : Bool) → P (Host pr tm) (effect (Host pr tm))
+  -- rfid and mtmsrd: the control registers tell what is asked and where it goes on, at a multiple of 4
+  pub returns : (e : Event) (a : Control → Asked) (at : Control → ℕ) → ((k : Control) → k .nia % 4 ≡ 0 → at k % 4 ≡ 0) → P e (λ t mem. quiet (returning t (a (t .control)) (at (t .control))))
   -- any that only sets general registers and goes on
   pub registers : (e : Event) (g : Thread → List ℕ) → ((t : Thread) → length (g t) ≡ length (t .live .gpr)) → P e (λ t mem. quiet (passes (with-gprs t (g t))))
 
 pub effect-by : (P : Event → Works → Type 0) → Cases P → (e : Event) → P e (effect e)
-unfolding effect mfspr addi
+unfolding effect mfspr addi rfid mtmsrd
 effect-by P c (Tbegin r) = c .tbegin r
 effect-by P c (Tend a) = c .tend a
 effect-by P c (Tabort ra) = c .tabort ra
@@ -61,3 +68,5 @@ effect-by P c (Addi rt ra si) = c .registers (Addi rt ra si) (λ t. set (t .live
 effect-by P c Disallowed = c .disallowed
 effect-by P c Interrupt = c .interrupt
 effect-by P c (Host pr tm) = c .host pr tm
+effect-by P c Rfid = c .returns Rfid (λ k. by-srr1 (k .saved .srr1)) (λ k. k .saved .srr0 - k .saved .srr0 % 4) (λ k h. omega arith)
+effect-by P c (Mtmsrd t s tm pr) = c .returns (Mtmsrd t s tm pr) (λ k. asked t s tm pr) (λ k. next (k .nia)) (λ k h. omega arith)

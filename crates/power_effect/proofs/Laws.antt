@@ -82,6 +82,7 @@ effect-lined e t mem o h =
       disallowed = λ o. tt;
       interrupt = λ o. tt;
       host = λ pr tm o. tt;
+      returns = λ e a at m o. tt;
       registers = λ e g s o. tt;
     })
     e o

@@ -1,4 +1,4 @@
-// An event done on its own thread's rows and on memory (rules E1 to E17): it goes to the crate of its group. Rare ones are done on the thread by value.
+// An event done on its own thread's rows and on memory (rules E1 to E19): it goes to the crate of its group. Rare ones are done on the thread by value.
 ghost use mathlib.Core.Path.{_≡_};
 ghost use Prim.Native.Nat.{_≤_};
 ghost use lib.ListN.{length};
@@ -20,6 +20,7 @@ use power_common::Did;
 use rows::HEAD;
 use rows::Went;
 use thread::Thread;
+use thread::turns::Asked;
 use transaction::Touch;
 
 // The events that are done by value.
@@ -122,5 +123,10 @@ pub fn effect(
         Event::Disallowed => quiet(power_plain::disallowed(gpr, cr, &*kgpr, &*kcr, words)),
         Event::Interrupt => quiet(power_plain::interrupt(words)),
         Event::Host { pr, tm } => quiet(power_plain::host(words, pr, tm)),
+        Event::Rfid => quiet(power_returns::rfid(gpr, cr, &*kgpr, &*kcr, words)),
+        Event::Mtmsrd { t, s, tm, pr } => {
+            let asked = Asked { t, s, tm, pr };
+            quiet(power_returns::mtmsrd(gpr, cr, &*kgpr, &*kcr, words, asked))
+        }
     }
 }

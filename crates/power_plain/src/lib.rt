@@ -6,16 +6,20 @@ ghost use Rattle.base.specs.Limits.{gprs};
 ghost use Rattle.rows.specs.Rows.{head-of, standing};
 ghost use Rattle.power_common.specs.Common.{did};
 ghost use Rattle.power_plain.specs.Plain.{extended, addi, disallowed, interrupted, interrupt, host};
-ghost use Rattle.power_plain.specs.Inner.{set-to};
+ghost use Rattle.power_plain.specs.Inner.{entered};
 use base::CR_FIELDS;
 use base::GPRS;
 use base::answer;
 use power_common::place;
 use rows::HEAD;
 use rows::Head;
-use thread::Msr;
+use thread::Saved;
 use thread::State;
+use thread::turns;
 use transaction::Cause;
+
+// Where a handler begins.
+const HANDLER: u64 = 0x500;
 
 // SI sign-extended from 16 bits.
 fn extended(si: u16) -> u64
@@ -71,24 +75,6 @@ pub fn disallowed(
     }
 }
 
-// The head in a state, with PR and TM.
-fn set_to(h: Head, s: State, pr: bool, tm: bool) -> Head
-    ensures { λ g. ⌜ g ≡ set-to h s pr tm ⌝ }
-{
-    let mut k = h.control;
-    let m = k.msr;
-    let msr = Msr {
-        pr,
-        tm,
-        state: s,
-        doomed: m.doomed,
-    };
-    k.msr = msr;
-    let mut g = h;
-    g.control = k;
-    g
-}
-
 fn interrupted(s: State) -> State
     ensures { λ r. ⌜ r ≡ interrupted s ⌝ }
 {
@@ -99,15 +85,31 @@ fn interrupted(s: State) -> State
     }
 }
 
-// An interrupt taken: the handler runs in S, and a failure there waits for tresume.
+// The head as a handler finds it. What was there is saved before anything changes.
+fn entered(h: Head) -> Head
+    ensures { λ g. ⌜ g ≡ entered h ⌝ }
+{
+    let k = h.control;
+    let m = k.msr;
+    let s = m.state;
+    let saved = Saved {
+        srr0: k.nia,
+        srr1: turns::srr1_of(m),
+    };
+    let mut g = place::set_to(h, interrupted(s), false, false);
+    let mut control = g.control;
+    control.nia = HANDLER;
+    control.saved = saved;
+    g.control = control;
+    g
+}
+
+// An interrupt taken: the handler runs in S, and a failure there waits for tresume, rfid or mtmsrd.
 pub fn interrupt(words: &mut [u64; HEAD]) -> u8
     ensures { λ a. ⌜ ((gpr cr kgpr kcr ix vl : List ℕ) → did a (standing gpr cr kgpr kcr (now (words .exit)) ix vl) ≡ interrupt (standing gpr cr kgpr kcr (now (words .entry)) ix vl)) ⌝ }
 {
     let h = rows::read_head(&*words);
-    let k = h.control;
-    let m = k.msr;
-    let s = m.state;
-    rows::write_head(&mut *words, set_to(h, interrupted(s), false, false));
+    rows::write_head(&mut *words, entered(h));
     answer::DONE
 }
 
@@ -119,6 +121,6 @@ pub fn host(words: &mut [u64; HEAD], pr: bool, tm: bool) -> u8
     let k = h.control;
     let m = k.msr;
     let s = m.state;
-    rows::write_head(&mut *words, set_to(h, s, pr, tm));
+    rows::write_head(&mut *words, place::set_to(h, s, pr, tm));
     answer::DONE
 }

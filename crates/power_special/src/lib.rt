@@ -5,7 +5,7 @@ ghost use Prim.Native.Nat.{ℕ, _<_};
 ghost use Rattle.base.specs.Limits.{gprs};
 ghost use Rattle.rows.specs.Rows.{standing};
 ghost use Rattle.power_common.specs.Common.{did};
-ghost use Rattle.power_special.specs.Special.{put-spr, mtspr, get-tfiar, get-spr, mfspr};
+ghost use Rattle.power_special.specs.Special.{put-failure, put-spr, mtspr, get-tfiar, get-spr, mfspr};
 use base::GPRS;
 use base::answer;
 use power_common::Did;
@@ -15,8 +15,8 @@ use thread::Control;
 use thread::Failure;
 use thread::Thread;
 
-fn put_spr(f: Failure, spr: u8, v: u64) -> Failure
-    ensures { λ r. ⌜ r ≡ put-spr f spr v ⌝ }
+fn put_failure(f: Failure, spr: u8, v: u64) -> Failure
+    ensures { λ r. ⌜ r ≡ put-failure f spr v ⌝ }
 {
     let mut c = f;
     if spr == 128 {
@@ -35,17 +35,36 @@ fn put_spr(f: Failure, spr: u8, v: u64) -> Failure
     c
 }
 
+fn put_spr(k: Control, spr: u8, v: u64) -> Control
+    ensures { λ r. ⌜ r ≡ put-spr k spr v ⌝ }
+{
+    let mut c = k;
+    let mut s = k.saved;
+    if spr == 26 {
+        s.srr0 = v;
+        c.saved = s;
+        return c;
+    }
+    if spr == 27 {
+        s.srr1 = v;
+        c.saved = s;
+        return c;
+    }
+    let f = put_failure(k.failure, spr, v);
+    c.failure = f;
+    c
+}
+
 // mtspr (SPR, RA)
 pub fn mtspr(t: Thread, spr: u8, ra: u8) -> Did
     requires { ⌜ ra < gprs ⌝ }
     ensures { λ d. ⌜ d ≡ mtspr t spr ra ⌝ }
 {
-    let mut k = t.control;
+    let k = t.control;
     let live = t.live;
-    let f = put_spr(k.failure, spr, live.gpr[ra as usize]);
-    k.failure = f;
+    let control = put_spr(k, spr, live.gpr[ra as usize]);
     let mut u = t;
-    u.control = k;
+    u.control = control;
     power_common::passes(u)
 }
 
@@ -67,6 +86,13 @@ fn get_spr(k: Control, spr: u8) -> u64
     ensures { λ r. ⌜ r ≡ get-spr k spr ⌝ }
 {
     let f = k.failure;
+    let s = k.saved;
+    if spr == 26 {
+        return s.srr0;
+    }
+    if spr == 27 {
+        return s.srr1;
+    }
     if spr == 128 {
         return f.tfhar;
     }

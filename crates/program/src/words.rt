@@ -96,6 +96,14 @@ fn host(pr: bool, tm: bool) {
     flag(b", TM=", tm);
 }
 
+// TS as its two bits.
+fn mtmsrd(t: bool, s: bool, tm: bool, pr: bool) {
+    flag(b"mtmsrd TS=", t);
+    flag(b"", s);
+    flag(b", TM=", tm);
+    flag(b", PR=", pr);
+}
+
 // Each kind by its name and its operands.
 fn event(e: Event) {
     match e {
@@ -116,6 +124,8 @@ fn event(e: Event) {
         Event::Disallowed => say(b"disallowed"),
         Event::Interrupt => say(b"interrupt"),
         Event::Host { pr, tm } => host(pr, tm),
+        Event::Rfid => say(b"rfid"),
+        Event::Mtmsrd { t, s, tm, pr } => mtmsrd(t, s, tm, pr),
     }
 }
 
@@ -133,7 +143,7 @@ fn malformed(n: u8, first: u8, kind: u8) {
     }
     with(b"kind ", kind as u64);
     if n == answer::NO_KIND {
-        say(b", not 1 to 17");
+        say(b", not 1 to 19");
     }
 }
 

@@ -1,6 +1,6 @@
 -- Laws of the refusals: what an event that is not refused tells, its thread and its operands; what a frequent kind can be refused by.
 use mathlib.Core.Path.{_≡_, refl, _∙_}
-use mathlib.Core.Bool.{Bool, true, false, not, cond, _&&_, and-false, and-true}
+use mathlib.Core.Bool.{Bool, true, false, not, cond, _&&_, _||_, and-false, and-true}
 use Prim.Native.Nat.{ℕ, _<_}
 use lib.Dec.{leb, ltb}
 use borrow.Author.Tests.{leb-false, not-false}
@@ -17,7 +17,7 @@ use Rattle.machine.specs.Machine.{thread}
 use Rattle.machine.specs.Valid.{valid}
 use Rattle.machine.specs.declared.Machine.{Machine}
 use Rattle.machine.proofs.Validity.{valid-passes}
-use Rattle.refusal.specs.Refusal.{bad-thing, refused-there, refused-later, refusal}
+use Rattle.refusal.specs.Refusal.{bad-thing, turned-down, refused-there, refused-later, refusal}
 use Rattle.refusal.specs.Inner.{refused-at}
 
 -- an event that passes the later tests has a thread, right operands, and passes those on its thread
@@ -45,33 +45,33 @@ refusal-valid m len w e v = simp (valid-passes m len v)
 
 -- the tests on its thread that an event of a frequent kind can fail
 module _ (k : Control) where
-  unbad-1 : (s : State) → bad-thing s k 1 ≡ false
+  unbad-1 : (tm : Bool) (s : State) → bad-thing s k 1 tm ≡ false
   unfolding bad-thing
-  unbad-1 N = refl
-  unbad-1 T = refl
-  unbad-1 S = refl
+  unbad-1 tm N = refl
+  unbad-1 tm T = refl
+  unbad-1 tm S = refl
 
-  unbad-12 : (s : State) → bad-thing s k 12 ≡ false
+  unbad-12 : (tm : Bool) (s : State) → bad-thing s k 12 tm ≡ false
   unfolding bad-thing
-  unbad-12 N = refl
-  unbad-12 T = refl
-  unbad-12 S = refl
+  unbad-12 tm N = refl
+  unbad-12 tm T = refl
+  unbad-12 tm S = refl
 
-  unbad-13 : (s : State) → bad-thing s k 13 ≡ false
+  unbad-13 : (tm : Bool) (s : State) → bad-thing s k 13 tm ≡ false
   unfolding bad-thing
-  unbad-13 N = refl
-  unbad-13 T = refl
-  unbad-13 S = refl
+  unbad-13 tm N = refl
+  unbad-13 tm T = refl
+  unbad-13 tm S = refl
 
-  unbad-14 : (s : State) → bad-thing s k 14 ≡ false
+  unbad-14 : (tm : Bool) (s : State) → bad-thing s k 14 tm ≡ false
   unfolding bad-thing
-  unbad-14 N = refl
-  unbad-14 T = refl
-  unbad-14 S = refl
+  unbad-14 tm N = refl
+  unbad-14 tm T = refl
+  unbad-14 tm S = refl
 
   pub tbegin-at : (b : Bool) → k .msr .tm ≡ b → (r : Bool) (len : ℕ) → cond b answer.done answer.facility-off ≡ refused-at k (Tbegin r) len
-  unfolding refused-there operands-right tm-instruction privileged kind
-  tbegin-at true p r len = simp (p, and-false, unbad-1 (k .msr .state))
+  unfolding refused-there turned-down operands-right tm-instruction privileged kind
+  tbegin-at true p r len = simp (p, and-false, unbad-1 true (k .msr .state))
   tbegin-at false p r len = simp p
 
   abbrev pub tend-number : State → ℕ
@@ -79,19 +79,19 @@ module _ (k : Control) where
   tend-number T = answer.done
   tend-number S = answer.bad-thing
 
-  bad-2 : (s : State) → tend-number s ≡ cond (bad-thing s k 2) answer.bad-thing answer.done
+  bad-2 : (tm : Bool) (s : State) → tend-number s ≡ cond (bad-thing s k 2 tm || false) answer.bad-thing answer.done
   unfolding bad-thing
-  bad-2 N = refl
-  bad-2 T = refl
-  bad-2 S = refl
+  bad-2 tm N = refl
+  bad-2 tm T = refl
+  bad-2 tm S = refl
 
   pub tend-off : k .msr .tm ≡ false → (a : Bool) (len : ℕ) → answer.facility-off ≡ refused-at k (Tend a) len
-  unfolding refused-there operands-right tm-instruction privileged kind
+  unfolding refused-there turned-down operands-right tm-instruction privileged kind
   tend-off p a len = simp p
 
   pub tend-on : k .msr .tm ≡ true → (a : Bool) (len : ℕ) → tend-number (k .msr .state) ≡ refused-at k (Tend a) len
-  unfolding refused-there operands-right tm-instruction privileged kind
-  tend-on p a len = simp (p, and-false) (bad-2 (k .msr .state))
+  unfolding refused-there turned-down operands-right tm-instruction privileged kind
+  tend-on p a len = simp (p, and-false) (bad-2 true (k .msr .state))
 
   turned : (b : Bool) (n : ℕ) → n ≡ answer.done → cond b answer.done answer.operand ≡ cond (not b) answer.operand n
   turned true n p = rw p
@@ -99,16 +99,16 @@ module _ (k : Control) where
 
   -- a thread never refuses these
   ld-there : (rt i : ℕ) → refused-there k (Ld rt i) ≡ answer.done
-  unfolding refused-there tm-instruction privileged kind
-  ld-there rt i = simp (and-false, unbad-12 (k .msr .state))
+  unfolding refused-there turned-down tm-instruction privileged kind
+  ld-there rt i = simp (and-false, unbad-12 false (k .msr .state))
 
   std-there : (ra i : ℕ) → refused-there k (Std ra i) ≡ answer.done
-  unfolding refused-there tm-instruction privileged kind
-  std-there ra i = simp (and-false, unbad-13 (k .msr .state))
+  unfolding refused-there turned-down tm-instruction privileged kind
+  std-there ra i = simp (and-false, unbad-13 false (k .msr .state))
 
   addi-there : (rt ra si : ℕ) → refused-there k (Addi rt ra si) ≡ answer.done
-  unfolding refused-there tm-instruction privileged kind
-  addi-there rt ra si = simp (and-false, unbad-14 (k .msr .state))
+  unfolding refused-there turned-down tm-instruction privileged kind
+  addi-there rt ra si = simp (and-false, unbad-14 false (k .msr .state))
 
   pub ld-at : (rt i len : ℕ) → cond (ltb rt gprs && ltb i len) answer.done answer.operand ≡ refused-at k (Ld rt i) len
   unfolding operands-right

@@ -7,7 +7,7 @@ ghost use Rattle.base.specs.Answers as answer;
 ghost use Rattle.base.specs.Limits.{gprs};
 ghost use Rattle.event.specs.declared.Event.the-variants.{Tbegin, Tend};
 ghost use Rattle.rows.specs.Rows.{head-of};
-ghost use Rattle.refusal.specs.Refusal.{in-t, host-in-t, bad-thing, off, forbidden, refused-there};
+ghost use Rattle.refusal.specs.Refusal.{in-t, host-in-t, bad-thing, turned-down, off, forbidden, refused-there};
 ghost use Rattle.refusal.specs.Inner.{refused-at};
 use base::GPRS;
 use base::answer;
@@ -15,6 +15,8 @@ use event::Event;
 use rows::HEAD;
 use thread::Control;
 use thread::State;
+use thread::turns;
+use thread::turns::Asked;
 
 fn in_t(s: State) -> bool
     ensures { λ r. ⌜ r ≡ in-t s ⌝ }
@@ -37,8 +39,8 @@ fn host_in_t(s: State, n: u8) -> bool
 }
 
 // trechkpt. wants N and FS = 1.
-fn bad_in_n(k: Control, n: u8) -> bool
-    ensures { λ r. ⌜ r ≡ bad-thing State.N k n ⌝ }
+fn bad_in_n(k: Control, n: u8, tm: bool) -> bool
+    ensures { λ r. ⌜ r ≡ bad-thing State.N k n tm ⌝ }
 {
     if n == event::TRECLAIM {
         return true;
@@ -49,8 +51,8 @@ fn bad_in_n(k: Control, n: u8) -> bool
     false
 }
 
-fn bad_in_t(k: Control, n: u8) -> bool
-    ensures { λ r. ⌜ r ≡ bad-thing State.T k n ⌝ }
+fn bad_in_t(k: Control, n: u8, tm: bool) -> bool
+    ensures { λ r. ⌜ r ≡ bad-thing State.T k n tm ⌝ }
 {
     if n == event::TRECHKPT {
         return true;
@@ -58,25 +60,73 @@ fn bad_in_t(k: Control, n: u8) -> bool
     n == event::MTSPR
 }
 
-fn bad_in_s(k: Control, n: u8) -> bool
-    ensures { λ r. ⌜ r ≡ bad-thing State.S k n ⌝ }
+// A suspended handler may set SRR0 and SRR1: mtspr is then no TM instruction.
+fn bad_in_s(k: Control, n: u8, tm: bool) -> bool
+    ensures { λ r. ⌜ r ≡ bad-thing State.S k n tm ⌝ }
 {
     if n == event::TEND {
         return true;
     }
-    bad_in_t(k, n)
+    if n == event::TRECHKPT {
+        return true;
+    }
+    if n == event::MTSPR {
+        return tm;
+    }
+    false
 }
 
 // Number 13: Bad Thing.
-fn bad_thing(k: Control, n: u8) -> bool
-    ensures { λ r. ⌜ r ≡ bad-thing (k .msr .state) k n ⌝ }
+fn bad_thing(k: Control, n: u8, tm: bool) -> bool
+    ensures { λ r. ⌜ r ≡ bad-thing (k .msr .state) k n tm ⌝ }
 {
     let m = k.msr;
     let s = m.state;
     match s {
-        State::N => bad_in_n(k, n),
-        State::T => bad_in_t(k, n),
-        State::S => bad_in_s(k, n),
+        State::N => bad_in_n(k, n, tm),
+        State::T => bad_in_t(k, n, tm),
+        State::S => bad_in_s(k, n, tm),
+    }
+}
+
+// Number 13 of rfid and mtmsrd.
+fn turned_down(k: Control, e: Event) -> bool
+    ensures { λ r. ⌜ r ≡ turned-down k e ⌝ }
+{
+    let m = k.msr;
+    let saved = k.saved;
+    match e {
+        Event::Tbegin { r: _ } => false,
+        Event::Tend { a: _ } => false,
+        Event::Tabort { ra: _ } => false,
+        Event::Tabortwc {
+            to: _,
+            ra: _,
+            rb: _,
+        } => false,
+        Event::Tabortdc {
+            to: _,
+            ra: _,
+            rb: _,
+        } => false,
+        Event::Tsr { l: _ } => false,
+        Event::Tcheck { bf: _ } => false,
+        Event::Treclaim { ra: _ } => false,
+        Event::Trechkpt => false,
+        Event::Mtspr { spr: _, ra: _ } => false,
+        Event::Mfspr { rt: _, spr: _ } => false,
+        Event::Ld { rt: _, index: _ } => false,
+        Event::Std { ra: _, index: _ } => false,
+        Event::Addi {
+            rt: _,
+            ra: _,
+            si: _,
+        } => false,
+        Event::Disallowed => false,
+        Event::Interrupt => false,
+        Event::Host { pr: _, tm: _ } => false,
+        Event::Rfid => turns::is_bad(m, turns::by_srr1(saved.srr1)),
+        Event::Mtmsrd { t, s, tm, pr } => turns::is_bad(m, Asked { t, s, tm, pr }),
     }
 }
 
@@ -120,7 +170,10 @@ fn refused_there(k: Control, e: Event) -> u8
     if barred {
         return answer::PRIVILEGED;
     }
-    if bad_thing(k, n) {
+    if bad_thing(k, n, event::tm_instruction(e)) {
+        return answer::BAD_THING;
+    }
+    if turned_down(k, e) {
         return answer::BAD_THING;
     }
     answer::DONE

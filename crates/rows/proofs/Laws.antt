@@ -44,7 +44,7 @@ words-of h =
     let a = h .reads .words in
     let b = h .writes .words in
     k .nia ∷ bit (k .msr .pr) ∷ bit (k .msr .tm) ∷ state-number (k .msr .state) ∷ bit (k .msr .doomed) ∷ k .failure .tfhar ∷ k .failure .tfiar ∷ k .failure .texasr ∷ h .cr0 ∷ h .count
-    ∷ getD a 0 0 ∷ getD a 1 0 ∷ getD a 2 0 ∷ getD a 3 0 ∷ getD b 0 0 ∷ getD b 1 0 ∷ getD b 2 0 ∷ getD b 3 0 ∷ []
+    ∷ getD a 0 0 ∷ getD a 1 0 ∷ getD a 2 0 ∷ getD a 3 0 ∷ getD b 0 0 ∷ getD b 1 0 ∷ getD b 2 0 ∷ getD b 3 0 ∷ k .saved .srr0 ∷ k .saved .srr1 ∷ []
 
 pub head-back : (h : Head) → h .cr0 < 2 ^ 8 → length (h .reads .words) ≡ 4 → length (h .writes .words) ≡ 4 → head-of (words-of h) ≡ h
 unfolding head-of
@@ -61,6 +61,7 @@ head-back h f a b =
                   doomed = bit-test (h .control .msr .doomed) j;
                 };
             failure = h .control .failure;
+            saved = h .control .saved;
           };
       cr0 = mod-eq-of-lt f j;
       count = h .count;
@@ -217,38 +218,38 @@ spread zero (w ∷ ws) e = absurd (omega arith)
 spread (suc n) [] e = absurd (omega arith)
 spread (suc n) (w ∷ ws) e = ap (λ (l : List ℕ). w ∷ l) (spread n ws (omega arith))
 
--- so what holds of eighteen numbers holds of a row of words
-pub of-words : (P : List ℕ → Type 0) → ((a b c d e f g h i j k l m n o p q r : ℕ) → P (a ∷ b ∷ c ∷ d ∷ e ∷ f ∷ g ∷ h ∷ i ∷ j ∷ k ∷ l ∷ m ∷ n ∷ o ∷ p ∷ q ∷ r ∷ []))
-    → (ws : List ℕ) → length ws ≡ 18 → P ws
+-- so what holds of twenty numbers holds of a row of words
+pub of-words : (P : List ℕ → Type 0) → ((a b c d e f g h i j k l m n o p q r s t : ℕ) → P (a ∷ b ∷ c ∷ d ∷ e ∷ f ∷ g ∷ h ∷ i ∷ j ∷ k ∷ l ∷ m ∷ n ∷ o ∷ p ∷ q ∷ r ∷ s ∷ t ∷ []))
+    → (ws : List ℕ) → length ws ≡ 20 → P ws
 unfolding listed
-of-words P each ws z = subst P (sym (spread 18 ws z)) (each _ _ _ _ _ _ _ _ _ _ _ _ _ _ _ _ _ _)
+of-words P each ws z = subst P (sym (spread 20 ws z)) (each _ _ _ _ _ _ _ _ _ _ _ _ _ _ _ _ _ _ _ _)
 
 module _ (v : ℕ) where
-  pub nia-set : (ws : List ℕ) → length ws ≡ 18 → head-of (set ws 0 v) ≡ with-control (head-of ws) (with-nia (head-of ws .control) v)
+  pub nia-set : (ws : List ℕ) → length ws ≡ 20 → head-of (set ws 0 v) ≡ with-control (head-of ws) (with-nia (head-of ws .control) v)
   unfolding head-of
-  nia-set = of-words (λ ws. head-of (set ws 0 v) ≡ with-control (head-of ws) (with-nia (head-of ws .control) v)) (λ a b c d e f g h i j k l m n o p q r. refl)
+  nia-set = of-words (λ ws. head-of (set ws 0 v) ≡ with-control (head-of ws) (with-nia (head-of ws .control) v)) (λ a b c d e f g h i j k l m n o p q r s t. refl)
 
-  pub count-set : (ws : List ℕ) → length ws ≡ 18 → head-of (set ws 9 v) ≡ with-count (head-of ws) v
+  pub count-set : (ws : List ℕ) → length ws ≡ 20 → head-of (set ws 9 v) ≡ with-count (head-of ws) v
   unfolding head-of
-  count-set = of-words (λ ws. head-of (set ws 9 v) ≡ with-count (head-of ws) v) (λ a b c d e f g h i j k l m n o p q r. refl)
+  count-set = of-words (λ ws. head-of (set ws 9 v) ≡ with-count (head-of ws) v) (λ a b c d e f g h i j k l m n o p q r s t. refl)
 
-  pub reads-set : (x : ℕ) → x < 4 → (ws : List ℕ) → length ws ≡ 18 → head-of (set ws (10 + x) v) ≡ with-reads (head-of ws) (record { words = set (head-of ws .reads .words) x v })
+  pub reads-set : (x : ℕ) → x < 4 → (ws : List ℕ) → length ws ≡ 20 → head-of (set ws (10 + x) v) ≡ with-reads (head-of ws) (record { words = set (head-of ws .reads .words) x v })
   unfolding head-of
   reads-set =
-      one-of-four (λ x. (ws : List ℕ) → length ws ≡ 18 → head-of (set ws (10 + x) v) ≡ with-reads (head-of ws) (record { words = set (head-of ws .reads .words) x v }))
-      (of-words (λ ws. head-of (set ws 10 v) ≡ with-reads (head-of ws) (record { words = set (head-of ws .reads .words) 0 v })) (λ a b c d e f g h i j k l m n o p q r. refl))
-      (of-words (λ ws. head-of (set ws 11 v) ≡ with-reads (head-of ws) (record { words = set (head-of ws .reads .words) 1 v })) (λ a b c d e f g h i j k l m n o p q r. refl))
-      (of-words (λ ws. head-of (set ws 12 v) ≡ with-reads (head-of ws) (record { words = set (head-of ws .reads .words) 2 v })) (λ a b c d e f g h i j k l m n o p q r. refl))
-      (of-words (λ ws. head-of (set ws 13 v) ≡ with-reads (head-of ws) (record { words = set (head-of ws .reads .words) 3 v })) (λ a b c d e f g h i j k l m n o p q r. refl))
+      one-of-four (λ x. (ws : List ℕ) → length ws ≡ 20 → head-of (set ws (10 + x) v) ≡ with-reads (head-of ws) (record { words = set (head-of ws .reads .words) x v }))
+      (of-words (λ ws. head-of (set ws 10 v) ≡ with-reads (head-of ws) (record { words = set (head-of ws .reads .words) 0 v })) (λ a b c d e f g h i j k l m n o p q r s t. refl))
+      (of-words (λ ws. head-of (set ws 11 v) ≡ with-reads (head-of ws) (record { words = set (head-of ws .reads .words) 1 v })) (λ a b c d e f g h i j k l m n o p q r s t. refl))
+      (of-words (λ ws. head-of (set ws 12 v) ≡ with-reads (head-of ws) (record { words = set (head-of ws .reads .words) 2 v })) (λ a b c d e f g h i j k l m n o p q r s t. refl))
+      (of-words (λ ws. head-of (set ws 13 v) ≡ with-reads (head-of ws) (record { words = set (head-of ws .reads .words) 3 v })) (λ a b c d e f g h i j k l m n o p q r s t. refl))
 
-  pub writes-set : (x : ℕ) → x < 4 → (ws : List ℕ) → length ws ≡ 18 → head-of (set ws (14 + x) v) ≡ with-writes (head-of ws) (record { words = set (head-of ws .writes .words) x v })
+  pub writes-set : (x : ℕ) → x < 4 → (ws : List ℕ) → length ws ≡ 20 → head-of (set ws (14 + x) v) ≡ with-writes (head-of ws) (record { words = set (head-of ws .writes .words) x v })
   unfolding head-of
   writes-set =
-      one-of-four (λ x. (ws : List ℕ) → length ws ≡ 18 → head-of (set ws (14 + x) v) ≡ with-writes (head-of ws) (record { words = set (head-of ws .writes .words) x v }))
-      (of-words (λ ws. head-of (set ws 14 v) ≡ with-writes (head-of ws) (record { words = set (head-of ws .writes .words) 0 v })) (λ a b c d e f g h i j k l m n o p q r. refl))
-      (of-words (λ ws. head-of (set ws 15 v) ≡ with-writes (head-of ws) (record { words = set (head-of ws .writes .words) 1 v })) (λ a b c d e f g h i j k l m n o p q r. refl))
-      (of-words (λ ws. head-of (set ws 16 v) ≡ with-writes (head-of ws) (record { words = set (head-of ws .writes .words) 2 v })) (λ a b c d e f g h i j k l m n o p q r. refl))
-      (of-words (λ ws. head-of (set ws 17 v) ≡ with-writes (head-of ws) (record { words = set (head-of ws .writes .words) 3 v })) (λ a b c d e f g h i j k l m n o p q r. refl))
+      one-of-four (λ x. (ws : List ℕ) → length ws ≡ 20 → head-of (set ws (14 + x) v) ≡ with-writes (head-of ws) (record { words = set (head-of ws .writes .words) x v }))
+      (of-words (λ ws. head-of (set ws 14 v) ≡ with-writes (head-of ws) (record { words = set (head-of ws .writes .words) 0 v })) (λ a b c d e f g h i j k l m n o p q r s t. refl))
+      (of-words (λ ws. head-of (set ws 15 v) ≡ with-writes (head-of ws) (record { words = set (head-of ws .writes .words) 1 v })) (λ a b c d e f g h i j k l m n o p q r s t. refl))
+      (of-words (λ ws. head-of (set ws 16 v) ≡ with-writes (head-of ws) (record { words = set (head-of ws .writes .words) 2 v })) (λ a b c d e f g h i j k l m n o p q r s t. refl))
+      (of-words (λ ws. head-of (set ws 17 v) ≡ with-writes (head-of ws) (record { words = set (head-of ws .writes .words) 3 v })) (λ a b c d e f g h i j k l m n o p q r s t. refl))
 
 -- a line in the sets of a row
 pub writes-has : (ws : List ℕ) (l : ℕ) → l < lines → has (head-of ws .writes) l ≡ place (getD ws (14 + l / 64) 0) (l % 64)

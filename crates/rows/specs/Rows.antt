@@ -37,6 +37,7 @@ head-of r =
             nia = getD r 0 0;
             msr = record { pr = flag (getD r 1 0); tm = flag (getD r 2 0); state = state-at (getD r 3 0); doomed = flag (getD r 4 0) };
             failure = record { tfhar = getD r 5 0; tfiar = getD r 6 0; texasr = getD r 7 0 };
+            saved = record { srr0 = getD r 18 0; srr1 = getD r 19 0 };
           };
       cr0 = getD r 8 0 % 2 ^ 8;
       count = getD r 9 0;

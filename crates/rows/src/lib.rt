@@ -14,6 +14,7 @@ use lines::LineSet;
 use thread::Control;
 use thread::Failure;
 use thread::Msr;
+use thread::Saved;
 use thread::State;
 use transaction::Touch;
 
@@ -32,8 +33,8 @@ pub struct Went {
     pub touch: Touch,
 }
 
-// Words of a row: the control registers, CR0, the log's count, the read set and the write set.
-pub const HEAD: usize = 18;
+// Words of a row: the control registers without SRR0 and SRR1, CR0, the log's count, the read set, the write set, SRR0 and SRR1.
+pub const HEAD: usize = 20;
 
 // The state that a word names, and the word that names it.
 pub fn state_at(n: u64) -> State
@@ -74,6 +75,10 @@ pub fn read_head(r: &[u64; HEAD]) -> Head
             tfiar: r[6],
             texasr: r[7],
         },
+        saved: Saved {
+            srr0: r[18],
+            srr1: r[19],
+        },
     };
     Head {
         control,
@@ -94,6 +99,7 @@ pub fn write_head(r: &mut [u64; HEAD], h: Head)
     let k = h.control;
     let m = k.msr;
     let f = k.failure;
+    let v = k.saved;
     let s = m.state;
     let a = h.reads;
     let b = h.writes;
@@ -129,6 +135,8 @@ pub fn write_head(r: &mut [u64; HEAD], h: Head)
         w1,
         w2,
         w3,
+        v.srr0,
+        v.srr1,
     ];
 }
 
@@ -162,7 +170,7 @@ pub fn values(a: [u64; PLACES])
 {}
 
 pub fn head_words(a: [u64; HEAD])
-    ensures { λ _. ⌜ length a ≡ 18 ⌝ }
+    ensures { λ _. ⌜ length a ≡ 20 ⌝ }
 {}
 
 // A set that begins at word 10 or 14 holds the line.

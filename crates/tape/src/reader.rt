@@ -86,7 +86,7 @@ pub fn of_kind(f: Fields, zero: bool) -> Read
 {
     let kind = f.kind;
     match kind {
-        1..=17 => judged(f, zero, event::row(kind), event::event_of(f)),
+        1..=19 => judged(f, zero, event::row(kind), event::event_of(f)),
         _ => Read::Refused(answer::NO_KIND),
     }
 }

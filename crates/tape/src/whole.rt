@@ -13,7 +13,7 @@ use crate::RECORD_SIZE;
 use crate::reader;
 use base::answer;
 
-const KINDS: usize = 17;
+const KINDS: usize = 19;
 
 // The largest value of each byte of a record, by the fields that its kind uses: any value where a byte is used, the largest flags of the row, and 0
 // where nothing may stand. First byte, kind and thread are judged elsewhere.
@@ -24,6 +24,8 @@ const PLAIN: [u8; RECORD_SIZE] = [U, U, U, 0, 0, 0, 0, 0, 0, 0, 0, 0, 0, 0, 0, 0
 const FLAG: [u8; RECORD_SIZE] = [U, U, U, 0, 0, 0, 1, 0, 0, 0, 0, 0, 0, 0, 0, 0];
 
 const FLAGS: [u8; RECORD_SIZE] = [U, U, U, 0, 0, 0, 3, 0, 0, 0, 0, 0, 0, 0, 0, 0];
+
+const MSR: [u8; RECORD_SIZE] = [U, U, U, 0, 0, 0, 15, 0, 0, 0, 0, 0, 0, 0, 0, 0];
 
 const RA: [u8; RECORD_SIZE] = [U, U, U, 0, U, 0, 0, 0, 0, 0, 0, 0, 0, 0, 0, 0];
 
@@ -58,6 +60,8 @@ const LIMITS: [[u8; RECORD_SIZE]; KINDS] = [
     PLAIN,
     PLAIN,
     FLAGS,
+    PLAIN,
+    MSR,
 ];
 
 // Every byte of a record is within its limit. All are compared, so that the compiler may compare them at once.
@@ -83,7 +87,7 @@ fn good(s: &[u8], limits: &[[u8; RECORD_SIZE]; KINDS]) -> bool
     let first = s[0];
     let kind = s[1];
     match kind {
-        1..=17 => {
+        1..=19 => {
             let own = limits[kind as usize - 1];
             (first == FIRST_BYTE) & within(s, &own)
         }

@@ -10,6 +10,7 @@
 //     4 checkpoint's register  11 TDOOMED                          18 log's index at a place
 //     5 live CR field          12 TFHAR                            19 log's value at a place
 //     6 checkpoint's CR field  13 TFIAR                            20 a log of as many places as byte 3 says, from an index on, each with the value
+//    21 SRR0                   22 SRR1
 pub mod text;
 
 use lines::LineSet;
@@ -18,6 +19,7 @@ use thread::Control;
 use thread::Failure;
 use thread::Msr;
 use thread::Registers;
+use thread::Saved;
 use thread::State;
 use thread::Thread;
 use transaction::Entry;
@@ -90,6 +92,17 @@ fn failure(f: Failure, field: u8, v: u64) -> Failure {
     g
 }
 
+fn saved(s: Saved, field: u8, v: u64) -> Saved {
+    let mut r = s;
+    if field == 21 {
+        r.srr0 = v;
+    }
+    if field == 22 {
+        r.srr1 = v;
+    }
+    r
+}
+
 fn msr(m: Msr, field: u8, v: u64) -> Msr {
     let mut n = m;
     if field == 8 {
@@ -116,8 +129,10 @@ fn control(k: Control, field: u8, v: u64) -> Control {
     }
     let n = msr(m, field, v);
     let f = failure(k.failure, field, v);
+    let s = saved(k.saved, field, v);
     c.msr = n;
     c.failure = f;
+    c.saved = s;
     c
 }
 
@@ -211,7 +226,7 @@ fn thread(t: Thread, b: [u8; 16], v: u64) -> Thread {
         return registers(t, field, i, v);
     }
     let mut u = t;
-    if field < 15 {
+    if (field < 15) | (20 < field) {
         let k = control(t.control, field, v);
         u.control = k;
         return u;

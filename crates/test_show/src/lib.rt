@@ -3,7 +3,7 @@
 //     r0 .. r31, cr0 .. cr7             live registers and CR fields
 //     saved_r0 .., saved_cr1 ..         the checkpoint
 //     nia pr tm state doomed            state: 0 is N, 1 T, 2 S
-//     tfhar tfiar texasr
+//     tfhar tfiar texasr srr0 srr1
 //     reads0 .. reads3, writes0 ..      the words of the line sets
 //     used, index0, value0, index1 ..   the log
 //
@@ -74,6 +74,7 @@ fn state(s: State) -> u64 {
 fn control(w: usize, k: Control) {
     let m = k.msr;
     let f = k.failure;
+    let v = k.saved;
     let s = m.state;
     field(w, b"nia", k.nia, 0);
     field(w, b"pr", bit(m.pr), 1);
@@ -83,6 +84,8 @@ fn control(w: usize, k: Control) {
     field(w, b"tfhar", f.tfhar, 0);
     field(w, b"tfiar", f.tfiar, 0);
     field(w, b"texasr", f.texasr, 0);
+    field(w, b"srr0", v.srr0, 0);
+    field(w, b"srr1", v.srr1, 0);
 }
 
 fn words(w: usize, name: &[u8], s: LineSet) {

@@ -1,2 +1,3 @@
 pub mod Texasr
 pub mod Thread
+pub mod Turns

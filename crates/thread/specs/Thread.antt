@@ -12,6 +12,7 @@ use Rattle.thread.specs.declared.State.{State}
 use Rattle.thread.specs.declared.State.the-variants.{N, T, S}
 use Rattle.thread.specs.declared.Msr.{Msr}
 use Rattle.thread.specs.declared.Failure.{Failure}
+use Rattle.thread.specs.declared.Saved.{Saved}
 use Rattle.thread.specs.declared.Control.{Control}
 use Rattle.thread.specs.declared.Thread.{Thread}
 
@@ -31,15 +32,18 @@ with-control t k = record { live = t .live; cr0 = t .cr0; checkpoint = t .checkp
 abbrev pub with-transaction : Thread → Transaction → Thread
 with-transaction t x = record { live = t .live; cr0 = t .cr0; checkpoint = t .checkpoint; control = t .control; transaction = x }
 
--- the control registers with one part anew: the next address; the machine state; the failure registers
+-- the control registers with one part anew: the next address; the machine state; the failure registers; what an interrupt saved
 abbrev pub with-nia : Control → ℕ → Control
-with-nia k a = record { nia = a; msr = k .msr; failure = k .failure }
+with-nia k a = record { nia = a; msr = k .msr; failure = k .failure; saved = k .saved }
 
 abbrev pub with-msr : Control → Msr → Control
-with-msr k m = record { nia = k .nia; msr = m; failure = k .failure }
+with-msr k m = record { nia = k .nia; msr = m; failure = k .failure; saved = k .saved }
 
 abbrev pub with-failure : Control → Failure → Control
-with-failure k f = record { nia = k .nia; msr = k .msr; failure = f }
+with-failure k f = record { nia = k .nia; msr = k .msr; failure = f; saved = k .saved }
+
+abbrev pub with-saved : Control → Saved → Control
+with-saved k s = record { nia = k .nia; msr = k .msr; failure = k .failure; saved = s }
 
 -- TEXASR anew
 abbrev pub with-texasr : Control → ℕ → Control

@@ -1,5 +1,7 @@
 // One thread: live registers and checkpoint, control registers, transaction; recording of a failure (rules M4 to M7, X1 to X6, F1 to F5).
-// On rows that are lent a failure is recorded and handled in `power_common::place`.
+// On rows that are lent a failure is recorded and handled in `power_common::place`. What a return from an interrupt may ask for: `turns`.
+pub mod turns;
+
 ghost use mathlib.Core.Path.{_≡_};
 ghost use Prim.Native.Nat.{_<_, _^_};
 ghost use Rattle.thread.specs.Texasr.{rot, tl, packed, cause-bits};
@@ -40,11 +42,18 @@ pub struct Failure {
     pub texasr: u64,
 }
 
-// The next address, the machine state and the failure registers.
+// What an interrupt saved: the next address in SRR0, TS, TM and PR in SRR1.
+pub struct Saved {
+    pub srr0: u64,
+    pub srr1: u64,
+}
+
+// The next address, the machine state, the failure registers, and what an interrupt saved.
 pub struct Control {
     pub nia: u64,
     pub msr: Msr,
     pub failure: Failure,
+    pub saved: Saved,
 }
 
 pub struct Thread {
@@ -124,6 +133,7 @@ pub fn in_state(k: Control, s: State, doomed: bool) -> Control
 {
     let m = k.msr;
     let failure = k.failure;
+    let saved = k.saved;
     Control {
         nia: k.nia,
         msr: Msr {
@@ -133,6 +143,7 @@ pub fn in_state(k: Control, s: State, doomed: bool) -> Control
             doomed,
         },
         failure,
+        saved,
     }
 }
 

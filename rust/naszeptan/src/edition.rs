@@ -97,6 +97,8 @@ impl fmt::Display for NotConverted {
         match (from, answer) {
             (Edition::Two, Answer::BadFirstByte) => f.write_str("the first byte is above 3"),
             (Edition::Three, Answer::BadFirstByte) => f.write_str("the first byte is not 0xE3"),
+            // Whichever way it goes, edition two has no other kind.
+            (_, Answer::NoKind) => f.write_str("the kind is not 1 to 17"),
             _ => write!(f, "{answer}"),
         }
     }

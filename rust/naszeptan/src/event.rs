@@ -1,4 +1,4 @@
-//! The seventeen events.
+//! The nineteen events.
 
 use std::fmt;
 
@@ -80,18 +80,20 @@ pub enum Event {
     },
     /// 9: makes the live registers a checkpoint, Suspended; privileged.
     Trechkpt,
-    /// 10: register RA goes to TFHAR, TFIAR, TEXASR or its upper half.
+    /// 10: register RA goes to TFHAR, TFIAR, TEXASR or its upper half, or,
+    /// privileged, to SRR0 or SRR1.
     Mtspr {
-        /// SPR, 128 to 131.
+        /// SPR: 26, 27, or 128 to 131.
         spr: u8,
         /// RA.
         ra: u8,
     },
-    /// 11: TFHAR, TFIAR, TEXASR or its upper half goes to register RT.
+    /// 11: TFHAR, TFIAR, TEXASR or its upper half, or, privileged, SRR0 or SRR1
+    /// goes to register RT.
     Mfspr {
         /// RT.
         rt: u8,
-        /// SPR, 128 to 131.
+        /// SPR: 26, 27, or 128 to 131.
         spr: u8,
     },
     /// 12: loads a doubleword.
@@ -119,7 +121,7 @@ pub enum Event {
     },
     /// 15: an instruction that a transaction does not allow.
     Disallowed,
-    /// 16: an interrupt is taken.
+    /// 16: an interrupt is taken: SRR0 and SRR1 take NIA and TS, TM and PR.
     Interrupt,
     /// 17: the host sets PR and TM.
     Host {
@@ -128,10 +130,24 @@ pub enum Event {
         /// TM.
         tm: bool,
     },
+    /// 18: returns from an interrupt to SRR0, and asks for the TS, TM and PR of
+    /// SRR1; privileged.
+    Rfid,
+    /// 19: asks for TS, TM and PR; privileged.
+    Mtmsrd {
+        /// TS's higher bit: Transactional.
+        t: bool,
+        /// TS's lower bit: Suspended. Both are no state, and answered 13.
+        s: bool,
+        /// TM.
+        tm: bool,
+        /// PR.
+        pr: bool,
+    },
 }
 
 impl Event {
-    /// The number of the event's kind, 1 to 17. [`Kind::of`] gives its row.
+    /// The number of the event's kind, 1 to 19. [`Kind::of`] gives its row.
     pub const fn kind(self) -> u8 {
         self.to_raw(0).kind
     }
@@ -156,6 +172,11 @@ impl Event {
             Event::Disallowed => (15, 0, 0, 0, 0, 0, 0),
             Event::Interrupt => (16, 0, 0, 0, 0, 0, 0),
             Event::Host { pr, tm } => (17, 0, 0, 0, pr as u8 + 2 * tm as u8, 0, 0),
+            Event::Rfid => (18, 0, 0, 0, 0, 0, 0),
+            Event::Mtmsrd { t, s, tm, pr } => {
+                let flags = s as u8 + 2 * t as u8 + 4 * tm as u8 + 8 * pr as u8;
+                (19, 0, 0, 0, flags, 0, 0)
+            }
         };
         raw::Event {
             kind,
@@ -207,6 +228,13 @@ impl Event {
                 pr: flag,
                 tm: flags & 2 != 0,
             },
+            18 => Event::Rfid,
+            19 => Event::Mtmsrd {
+                t: flags & 2 != 0,
+                s: flag,
+                tm: flags & 4 != 0,
+                pr: flags & 8 != 0,
+            },
             _ => return Err(Answer::NoKind),
         };
         Ok((thread, event))
@@ -232,7 +260,8 @@ impl Event {
     /// The record of this edition that the event by this thread has.
     ///
     /// Edition three has one for every event by any thread. Edition two has
-    /// none for a thread above 3, which is [`Answer::NoThread`].
+    /// none for a thread above 3, which is [`Answer::NoThread`], and none for
+    /// kinds 18 and 19, which is [`Answer::NoKind`].
     pub fn write_in(self, edition: Edition, thread: u8) -> Result<[u8; RECORD_SIZE], Answer> {
         let (event, mut record) = (self.to_raw(thread), [0; RECORD_SIZE]);
         let answer = match edition {

@@ -4,7 +4,7 @@ use std::fmt;
 use std::mem::take;
 
 use crate::raw;
-use Operand::{Bf, Flag, Index, Ra, RaOrZero, Rb, Rt, RtInRa, Si, Spr, To};
+use Operand::{Bf, Flag, Index, Ra, RaOrZero, Rb, Rt, RtInRa, Si, Spr, To, Ts};
 
 /// What all events of one kind have in common: a row of the table in section E
 /// of docs/RULES.md. The kind's number is the row's place in [`KINDS`], counted
@@ -18,7 +18,7 @@ use Operand::{Bf, Flag, Index, Ra, RaOrZero, Rb, Rt, RtInRa, Si, Spr, To};
 /// assert_eq!(std.operands, [Operand::Ra, Operand::Index]);
 /// assert!(!std.tm && !std.privileged);
 /// assert_eq!(Kind::of(0), None);
-/// assert_eq!(KINDS.len(), 17);
+/// assert_eq!(KINDS.len(), 19);
 /// ```
 #[derive(Clone, Copy, Debug, PartialEq, Eq, Hash)]
 pub struct Kind {
@@ -27,9 +27,11 @@ pub struct Kind {
     /// The operands, in the order in which they are displayed. They are all
     /// that a record of this kind may hold.
     pub operands: &'static [Operand],
-    /// A TM instruction, which 11 refuses where TM = 0.
+    /// A TM instruction, which 11 refuses where TM = 0. mtspr and mfspr are one
+    /// with SPR 128 to 131 alone.
     pub tm: bool,
-    /// A privileged instruction, which 12 refuses where PR = 1.
+    /// A privileged instruction, which 12 refuses where PR = 1. mtspr and mfspr
+    /// are one with SPR 26 and 27 alone.
     pub privileged: bool,
 }
 
@@ -38,6 +40,8 @@ pub struct Kind {
 pub enum Operand {
     /// R, A, L, PR or TM: the name, and the weight in the flags.
     Flag(&'static str, u8),
+    /// TS of mtmsrd, the two lowest flags, displayed as its two bits.
+    Ts,
     /// TO, in X.
     To,
     /// SPR, in X.
@@ -61,7 +65,7 @@ pub enum Operand {
 }
 
 /// The row of each kind; that of kind 1 is the first.
-pub const KINDS: [Kind; 17] = [
+pub const KINDS: [Kind; 19] = [
     tm("tbegin.", &[Flag("R", 1)]),
     tm("tend.", &[Flag("A", 1)]),
     tm("tabort.", &[RaOrZero]),
@@ -71,14 +75,16 @@ pub const KINDS: [Kind; 17] = [
     tm("tcheck", &[Bf]),
     privileged("treclaim.", &[RaOrZero]),
     privileged("trechkpt.", &[]),
-    tm("mtspr", &[Spr, Ra]),
-    tm("mfspr", &[RtInRa, Spr]),
+    privileged("mtspr", &[Spr, Ra]),
+    privileged("mfspr", &[RtInRa, Spr]),
     other("ld", &[Rt, Index]),
     other("std", &[Ra, Index]),
     other("addi", &[Rt, RaOrZero, Si]),
     other("disallowed", &[]),
     other("interrupt", &[]),
     other("host", &[Flag("PR", 1), Flag("TM", 2)]),
+    returns("rfid", &[]),
+    returns("mtmsrd", &[Ts, Flag("TM", 4), Flag("PR", 8)]),
 ];
 
 /// Neither a TM instruction nor privileged.
@@ -98,11 +104,20 @@ const fn tm(name: &'static str, operands: &'static [Operand]) -> Kind {
     }
 }
 
-/// The privileged kinds are TM instructions.
+/// Privileged and a TM instruction; mtspr and mfspr are one of the two, by
+/// their SPR.
 const fn privileged(name: &'static str, operands: &'static [Operand]) -> Kind {
     Kind {
         privileged: true,
         ..tm(name, operands)
+    }
+}
+
+/// Privileged and no TM instruction.
+const fn returns(name: &'static str, operands: &'static [Operand]) -> Kind {
+    Kind {
+        privileged: true,
+        ..other(name, operands)
     }
 }
 
@@ -134,6 +149,7 @@ impl Kind {
             let value = operand.take(&mut fields);
             match operand {
                 Flag(name, _) => write!(f, "{name}={value}"),
+                Ts => write!(f, "TS={value:02b}"),
                 Bf => write!(f, "cr{value}"),
                 RaOrZero if value == 0 => f.write_str("0"),
                 Rt | RtInRa | Ra | RaOrZero | Rb => write!(f, "r{value}"),
@@ -148,7 +164,7 @@ impl Kind {
 impl Operand {
     /// Whether it has values that are out of range, which 4 refuses.
     pub const fn has_range(self) -> bool {
-        !matches!(self, Flag(..) | Si)
+        !matches!(self, Flag(..) | Ts | Si)
     }
 
     /// The operand's value, which is 0 in the fields afterwards.
@@ -158,6 +174,11 @@ impl Operand {
                 let set = fields.flags & weight != 0;
                 fields.flags &= !weight;
                 set.into()
+            }
+            Ts => {
+                let ts = fields.flags & 3;
+                fields.flags &= !3;
+                ts.into()
             }
             To | Spr | Bf | Rt => take(&mut fields.x).into(),
             RtInRa | Ra | RaOrZero => take(&mut fields.ra).into(),

@@ -36,6 +36,10 @@ pub struct Control {
     pub tfiar: u64,
     /// Why it failed.
     pub texasr: Texasr,
+    /// SRR0: where an interrupt was taken.
+    pub srr0: u64,
+    /// SRR1: TS, TM and PR then, in bits 29:30, 31 and 49, bit 0 the highest.
+    pub srr1: u64,
 }
 
 /// One thread's record. The default is the record of a thread that is not
@@ -48,7 +52,7 @@ pub struct Thread {
     pub cr0: u8,
     /// The checkpoint.
     pub checkpoint: Registers,
-    /// NIA, PR, TM, state, TDOOMED and the three special registers.
+    /// NIA, PR, TM, state, TDOOMED and the five special registers.
     pub control: Control,
     /// Read set, write set and log.
     pub transaction: Transaction,
@@ -291,6 +295,8 @@ impl From<&Control> for raw::Control {
             tfhar: from.tfhar,
             tfiar: from.tfiar,
             texasr: from.texasr.0,
+            srr0: from.srr0,
+            srr1: from.srr1,
         }
     }
 }
@@ -308,6 +314,8 @@ impl TryFrom<&raw::Control> for Control {
             tfhar: from.tfhar,
             tfiar: from.tfiar,
             texasr: Texasr(from.texasr),
+            srr0: from.srr0,
+            srr1: from.srr1,
         })
     }
 }

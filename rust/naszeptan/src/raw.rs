@@ -45,6 +45,10 @@ pub const RECORD_SIZE: usize = 16;
 /// The first byte of each record.
 pub const FIRST_BYTE: u8 = 0xE3;
 
+/// SRR0's number for mtspr and mfspr, which are privileged then.
+pub const SPR_SRR0: u8 = 26;
+/// SRR1's.
+pub const SPR_SRR1: u8 = 27;
 /// TFHAR's number for mtspr and mfspr.
 pub const SPR_TFHAR: u8 = 128;
 /// TFIAR's.
@@ -149,6 +153,10 @@ pub struct Control {
     pub tfiar: u64,
     /// TEXASR, its bit 0 the highest of the 64.
     pub texasr: u64,
+    /// Where an interrupt was taken.
+    pub srr0: u64,
+    /// TS, TM and PR then, in bits 29:30, 31 and 49, bit 0 the highest.
+    pub srr1: u64,
 }
 
 /// One thread's record.
@@ -161,7 +169,7 @@ pub struct Thread {
     pub cr0: u8,
     /// The checkpoint, which has no CR0.
     pub checkpoint: Registers,
-    /// NIA, PR, TM, state, TDOOMED and the three special registers.
+    /// NIA, PR, TM, state, TDOOMED and the five special registers.
     pub control: Control,
     /// Read set, write set and log.
     pub transaction: Transaction,
@@ -177,7 +185,7 @@ pub struct Machine {
     pub threads: [Thread; THREADS],
 }
 
-/// One event and the thread that executes it. `kind`, 1 to 17, says what the
+/// One event and the thread that executes it. `kind`, 1 to 19, says what the
 /// other fields mean; a field that its kind does not use must be 0.
 #[repr(C)]
 #[derive(Clone, Copy, Debug, Default, PartialEq, Eq, Hash)]
@@ -192,7 +200,7 @@ pub struct Event {
     pub ra: u8,
     /// RB.
     pub rb: u8,
-    /// R, A or L; for kind 17, PR + 2 * TM.
+    /// R, A or L; for kind 17, PR + 2 * TM; for kind 19, TS + 4 * TM + 8 * PR.
     pub flags: u8,
     /// The doubleword of a load or store.
     pub index: u32,

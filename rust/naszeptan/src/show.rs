@@ -44,6 +44,7 @@ impl fmt::Display for Thread {
         row(f, "", &registers(&self.live))?;
         row(f, "checkpoint: ", &registers(&self.checkpoint))?;
         row(f, "", &failure(self))?;
+        row(f, "", &saved(self))?;
         row(f, "", &transaction(&self.transaction))
     }
 }
@@ -78,6 +79,15 @@ fn failure(thread: &Thread) -> Vec<String> {
         parts.push(format!("TEXASR 0x{:016X} ({texasr})", texasr.0));
     }
     parts
+}
+
+fn saved(thread: &Thread) -> Vec<String> {
+    let control = &thread.control;
+    [("SRR0", control.srr0), ("SRR1", control.srr1)]
+        .into_iter()
+        .filter(|(_, value)| *value != 0)
+        .map(|(name, value)| format!("{name} 0x{value:X}"))
+        .collect()
 }
 
 fn transaction(transaction: &Transaction) -> Vec<String> {

@@ -96,9 +96,11 @@ fn writer() {
     let store = Event::Std { ra: 3, index: 17 }.to_raw(0);
     let far = raw::Event { thread: 4, ..store };
     let unused = raw::Event { rb: 1, ..far };
-    let none = raw::Event { kind: 18, ..unused };
+    let none = raw::Event { kind: 20, ..unused };
+    let later = Event::Rfid.to_raw(3);
     for len in [0, 15, 16, 20] {
         let mut buffer = [0xAA; 20];
+        assert_eq!(raw::write_two(later, &mut buffer[..len]), 8);
         assert_eq!(raw::write_two(none, &mut buffer[..len]), 8);
         assert_eq!(raw::write_two(unused, &mut buffer[..len]), 9);
         assert_eq!(raw::write_two(far, &mut buffer[..len]), 3);
@@ -164,6 +166,11 @@ fn refusals_in_words() {
         (
             &with(TWO, 1, 18),
             Edition::Two,
+            "record 0: 8, the kind is not 1 to 17",
+        ),
+        (
+            &Event::Rfid.write_in(Edition::Three, 0).unwrap(),
+            Edition::Three,
             "record 0: 8, the kind is not 1 to 17",
         ),
         (

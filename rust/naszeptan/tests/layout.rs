@@ -41,8 +41,8 @@ fn transaction() {
 #[test]
 fn control() {
     assert_eq!(
-        layout!(Control, nia, pr, tm, state, doomed, tfhar, tfiar, texasr),
-        (40, 8, vec![0, 8, 9, 10, 11, 16, 24, 32])
+        layout!(Control, nia, pr, tm, state, doomed, tfhar, tfiar, texasr, srr0, srr1),
+        (56, 8, vec![0, 8, 9, 10, 11, 16, 24, 32, 40, 48])
     );
 }
 
@@ -50,13 +50,13 @@ fn control() {
 fn thread() {
     assert_eq!(
         layout!(Thread, live, cr0, checkpoint, control, transaction),
-        (1672, 8, vec![0, 264, 272, 536, 576])
+        (1688, 8, vec![0, 264, 272, 536, 592])
     );
 }
 
 #[test]
 fn machine() {
-    assert_eq!(layout!(Machine, count, threads), (6696, 8, vec![0, 8]));
+    assert_eq!(layout!(Machine, count, threads), (6760, 8, vec![0, 8]));
 }
 
 #[test]
@@ -71,11 +71,11 @@ fn event() {
 fn answers() {
     assert_eq!(
         layout!(Done, answer, failed, machine),
-        (6704, 8, vec![0, 1, 8])
+        (6768, 8, vec![0, 1, 8])
     );
     assert_eq!(
         layout!(Ended, answer, count, index, machine),
-        (6720, 8, vec![0, 8, 16, 24])
+        (6784, 8, vec![0, 8, 16, 24])
     );
     assert_eq!(layout!(Record, answer, event), (20, 4, vec![0, 4]));
     assert_eq!(layout!(Converted, answer, index), (16, 8, vec![0, 8]));

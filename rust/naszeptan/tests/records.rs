@@ -9,7 +9,20 @@ const BYTES: [u8; 7] = [0, 1, 7, 31, 32, 128, 255];
 
 /// Events that have flags or no operand, all of them.
 fn flagged() -> Vec<Event> {
-    let mut all = vec![Event::Trechkpt, Event::Disallowed, Event::Interrupt];
+    let mut all = vec![
+        Event::Trechkpt,
+        Event::Disallowed,
+        Event::Interrupt,
+        Event::Rfid,
+    ];
+    for bits in 0..16 {
+        all.push(Event::Mtmsrd {
+            t: bits & 1 != 0,
+            s: bits & 2 != 0,
+            tm: bits & 4 != 0,
+            pr: bits & 8 != 0,
+        });
+    }
     for flag in [false, true] {
         all.push(Event::Tbegin { r: flag });
         all.push(Event::Tend { a: flag });
@@ -71,7 +84,7 @@ fn no_two_events_look_alike() {
     let texts: HashSet<_> = all.iter().map(Event::to_string).collect();
     assert_eq!(texts.len(), all.len());
     let kinds: HashSet<_> = all.iter().map(|event| event.kind()).collect();
-    assert_eq!(kinds, (1..=17).collect());
+    assert_eq!(kinds, (1..=19).collect());
 }
 
 #[test]

@@ -87,6 +87,8 @@ fn changed(thread: &Thread) -> Vec<Thread> {
     with(&|t| t.control.state = State::S);
     with(&|t| t.control.tfhar ^= 1 << 63);
     with(&|t| t.control.tfiar ^= 1 << 63);
+    with(&|t| t.control.srr0 ^= 1 << 63);
+    with(&|t| t.control.srr1 ^= 1 << 63);
     for n in 0..64 {
         with(&|t| t.control.texasr = Texasr(t.control.texasr.0 ^ 1 << n));
         with(&|t| t.transaction.reads.words[n / 16] ^= 1 << n);

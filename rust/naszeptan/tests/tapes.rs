@@ -187,6 +187,11 @@ fn elision() {
 }
 
 #[test]
+fn returns() {
+    hold("returns");
+}
+
+#[test]
 fn every_kind() {
     hold("every_kind");
 }

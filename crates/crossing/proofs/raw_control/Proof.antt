@@ -7,14 +7,14 @@ use Rattle.crossing.proofs.raw_control.Tie as tie
 bit-requires : tie.Need-bit-requires
 bit-requires c κs = search needs
 
-cast-t6 : tie.Need-cast-t6
-cast-t6 c = search needs
+cast-t7 : tie.Need-cast-t7
+cast-t7 c = search needs
 
 bit-requires-2 : tie.Need-bit-requires-2
 bit-requires-2 c κs = search needs
 
-cast-t8 : tie.Need-cast-t8
-cast-t8 c = search needs
+cast-t9 : tie.Need-cast-t9
+cast-t9 c = search needs
 
 state-number-requires : tie.Need-state-number-requires
 state-number-requires c κs = search needs
@@ -22,8 +22,8 @@ state-number-requires c κs = search needs
 bit-requires-3 : tie.Need-bit-requires-3
 bit-requires-3 c κs = search needs
 
-cast-t11 : tie.Need-cast-t11
-cast-t11 c = search needs
+cast-t12 : tie.Need-cast-t12
+cast-t12 c = search needs
 
 returns : tie.Need-returns
 unfolding raw-control
@@ -35,10 +35,10 @@ raw-control-spec =
     tie.close
     (tie.spec
     bit-requires
-    cast-t6
+    cast-t7
     bit-requires-2
-    cast-t8
+    cast-t9
     state-number-requires
     bit-requires-3
-    cast-t11
+    cast-t12
     returns)

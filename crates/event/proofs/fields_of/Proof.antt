@@ -127,6 +127,21 @@ add-filled c = search needs
 filled-requires-17 : tie.Need-filled-requires-17
 filled-requires-17 c κs = search needs
 
+enum-told-4 : tie.Need-enum-told-4
+enum-told-4 c = search needs
+
+filled-requires-18 : tie.Need-filled-requires-18
+filled-requires-18 c κs = search needs
+
+enum-known-e-15 : tie.Need-enum-known-e-15
+enum-known-e-15 c = search needs
+
+asked-flags-requires : tie.Need-asked-flags-requires
+asked-flags-requires c κs = search needs
+
+filled-requires-19 : tie.Need-filled-requires-19
+filled-requires-19 c κs = search needs
+
 returns : tie.Need-returns
 unfolding fields-of
 returns c = simp (c .filled .ensures, c .before .flag .ensures .0, c .before .before .before .e .given .1)
@@ -195,6 +210,14 @@ returns-17 : tie.Need-returns-17
 unfolding fields-of
 returns-17 c = simp (c .filled17 .ensures, c .before .flag5 .ensures .0, c .before .before .flag4 .ensures .0, c .before .before .before .before .e14 .given .1)
 
+returns-18 : tie.Need-returns-18
+unfolding fields-of
+returns-18 c = simp (c .filled18 .ensures, c .before .enum-told4 .given .1)
+
+returns-19 : tie.Need-returns-19
+unfolding fields-of
+returns-19 c = simp (c .filled19 .ensures, c .before .asked-flags .ensures, c .before .before .before .e15 .given .1)
+
 pub fields-of-spec : {M : Type 1} → statement M
 fields-of-spec =
     tie.close
@@ -240,6 +263,11 @@ fields-of-spec =
     mul-filled
     add-filled
     filled-requires-17
+    enum-told-4
+    filled-requires-18
+    enum-known-e-15
+    asked-flags-requires
+    filled-requires-19
     returns
     returns-2
     returns-3
@@ -256,4 +284,6 @@ fields-of-spec =
     returns-14
     returns-15
     returns-16
-    returns-17)
+    returns-17
+    returns-18
+    returns-19)

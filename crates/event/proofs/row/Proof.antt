@@ -48,6 +48,12 @@ line-requires-13 c κs = search needs
 line-requires-14 : tie.Need-line-requires-14
 line-requires-14 c κs = search needs
 
+line-requires-15 : tie.Need-line-requires-15
+line-requires-15 c κs = search needs
+
+line-requires-16 : tie.Need-line-requires-16
+line-requires-16 c κs = search needs
+
 returns : tie.Need-returns
 unfolding row
 returns c = chosen 3 (c .line .ensures) (c .before .match .keys1)
@@ -86,41 +92,83 @@ returns-9 c = chosen 17 (c .line9 .ensures) (c .before .match .keys9)
 
 returns-10 : tie.Need-returns-10
 unfolding row
-returns-10 c =
-    neighbour 1 _ (chosen 1 (c .line10 .ensures)) (chosen 2 (c .line10 .ensures))
-    (c .before .before .if1 .left)
-    (c .before .if2 .taken)
+returns-10 c = chosen 18 (c .line10 .ensures) (c .before .match .keys10)
 
 returns-11 : tie.Need-returns-11
 unfolding row
-returns-11 c =
-    let r = c .before .before .before .before .match .rest in
-    neighbour 4 _ (chosen 4 (c .line11 .ensures)) (chosen 5 (c .line11 .ensures))
-    (past 3 _ (c .before .before .if2 .left) (r .0 .0 .0 .0 .0 .0 .0 .0 .1))
-    (c .before .if3 .taken)
+returns-11 c = chosen 19 (c .line11 .ensures) (c .before .match .keys11)
 
 returns-12 : tie.Need-returns-12
 unfolding row
 returns-12 c =
-    let r = c .before .before .before .before .before .match .rest in
-    neighbour 10 _ (chosen 10 (c .line12 .ensures)) (chosen 11 (c .line12 .ensures))
-    (past 9 _ (past 8 _ (past 7 _ (past 6 _ (c .before .before .if3 .left) (r .0 .0 .0 .0 .0 .0 .0 .1)) (r .0 .0 .0 .0 .0 .0 .1)) (r .0 .0 .0 .0 .0 .1)) (r .0 .0 .0 .0 .1))
-    (c .before .if4 .taken)
+    neighbour 1 _ (chosen 1 (c .line12 .ensures)) (chosen 2 (c .line12 .ensures))
+    (c .before .before .if1 .left)
+    (c .before .if2 .taken)
 
 returns-13 : tie.Need-returns-13
 unfolding row
 returns-13 c =
-    let r = c .before .before .before .before .before .before .match .rest in
-    neighbour 15 _ (chosen 15 (c .line13 .ensures)) (chosen 16 (c .line13 .ensures))
-    (past 14 _ (past 13 _ (past 12 _ (c .before .before .if4 .left) (r .0 .0 .0 .1)) (r .0 .0 .1)) (r .0 .1))
-    (c .before .if5 .taken)
+    let r = c .before .before .before .before .match .rest in
+    neighbour 4 _ (chosen 4 (c .line13 .ensures)) (chosen 5 (c .line13 .ensures))
+    (past 3 _ (c .before .before .if2 .left) (r .0 .0 .0 .0 .0 .0 .0 .0 .0 .0 .1))
+    (c .before .if3 .taken)
 
 returns-14 : tie.Need-returns-14
 unfolding row
 returns-14 c =
+    let r = c .before .before .before .before .before .match .rest in
+    neighbour 10 _ (chosen 10 (c .line14 .ensures)) (chosen 11 (c .line14 .ensures))
+    (past 9 _ (past 8 _ (past 7 _ (past 6 _ (c .before .before .if3 .left) (r .0 .0 .0 .0 .0 .0 .0 .0 .0 .1)) (r .0 .0 .0 .0 .0 .0 .0 .0 .1)) (r .0 .0 .0 .0 .0 .0 .0 .1)) (r .0 .0 .0 .0 .0 .0 .1))
+    (c .before .if4 .taken)
+
+returns-15 : tie.Need-returns-15
+unfolding row
+returns-15 c =
+    let r = c .before .before .before .before .before .before .match .rest in
+    neighbour 15 _ (chosen 15 (c .line15 .ensures)) (chosen 16 (c .line15 .ensures))
+    (past 14 _ (past 13 _ (past 12 _ (c .before .before .if4 .left) (r .0 .0 .0 .0 .0 .1)) (r .0 .0 .0 .0 .1)) (r .0 .0 .0 .1))
+    (c .before .if5 .taken)
+
+returns-16 : tie.Need-returns-16
+unfolding row
+returns-16 c =
     let r = c .before .before .match .rest in
-    ⊎-elim (λ w. low _ (c .line14 .ensures) (w .taken)) (λ w. high _ (c .line14 .ensures) (past 17 _ (w .4 .left) (r .1)))
+    ⊎-elim (λ w. low _ (c .line16 .ensures) (w .taken)) (λ w. high _ (c .line16 .ensures) (past 19 _ (past 18 _ (past 17 _ (w .4 .left) (r .0 .0 .1)) (r .0 .1)) (r .1)))
     (c .before .if1 .came)
 
 pub row-spec : {M : Type 1} → statement M
-row-spec = tie.close (tie.spec line-requires line-requires-2 line-requires-3 line-requires-4 line-requires-5 line-requires-6 line-requires-7 line-requires-8 line-requires-9 line-requires-10 line-requires-11 line-requires-12 line-requires-13 line-requires-14 returns returns-2 returns-3 returns-4 returns-5 returns-6 returns-7 returns-8 returns-9 returns-10 returns-11 returns-12 returns-13 returns-14)
+row-spec =
+    tie.close
+    (tie.spec
+    line-requires
+    line-requires-2
+    line-requires-3
+    line-requires-4
+    line-requires-5
+    line-requires-6
+    line-requires-7
+    line-requires-8
+    line-requires-9
+    line-requires-10
+    line-requires-11
+    line-requires-12
+    line-requires-13
+    line-requires-14
+    line-requires-15
+    line-requires-16
+    returns
+    returns-2
+    returns-3
+    returns-4
+    returns-5
+    returns-6
+    returns-7
+    returns-8
+    returns-9
+    returns-10
+    returns-11
+    returns-12
+    returns-13
+    returns-14
+    returns-15
+    returns-16)

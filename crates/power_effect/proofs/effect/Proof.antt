@@ -225,6 +225,24 @@ host-requires c κs = search needs
 quiet-requires-14 : tie.Need-quiet-requires-14
 quiet-requires-14 c κs = search needs
 
+enum-told-4 : tie.Need-enum-told-4
+enum-told-4 c = search needs
+
+rfid-requires : tie.Need-rfid-requires
+rfid-requires c κs = search needs
+
+quiet-requires-15 : tie.Need-quiet-requires-15
+quiet-requires-15 c κs = search needs
+
+enum-known-e-15 : tie.Need-enum-known-e-15
+enum-known-e-15 c = search needs
+
+mtmsrd-requires : tie.Need-mtmsrd-requires
+mtmsrd-requires c κs = search needs
+
+quiet-requires-16 : tie.Need-quiet-requires-16
+quiet-requires-16 c κs = search needs
+
 returns : tie.Need-returns
 unfolding effect
 returns c =
@@ -370,6 +388,22 @@ returns-17 c =
     let s = e .before .before .before in
     quieted _ _ _ _ (thread s .transaction) (s .args .mem .now) (c .quiet14 .ensures) (f .host .ensures (s .args .gpr .now) (s .args .cr .now) (s .args .kgpr .now) (s .args .kcr .now) (s .args .ix .now) (s .args .vl .now)) ∙ done s _ (e .e14 .given .1)
 
+returns-18 : tie.Need-returns-18
+unfolding effect
+returns-18 c =
+    let f = c .before in
+    let e = f .before .before .before .before .before .before in
+    let s = e .before .before .before in
+    quieted _ _ _ _ (thread s .transaction) (s .args .mem .now) (c .quiet15 .ensures) (f .rfid .ensures (s .args .ix .now) (s .args .vl .now)) ∙ done s _ (e .enum-told4 .given .1)
+
+returns-19 : tie.Need-returns-19
+unfolding effect
+returns-19 c =
+    let f = c .before in
+    let e = f .before .before .before .before .before .before .before in
+    let s = e .before .before .before in
+    quieted _ _ _ _ (thread s .transaction) (s .args .mem .now) (c .quiet16 .ensures) (f .mtmsrd .ensures (s .args .ix .now) (s .args .vl .now)) ∙ done s _ (e .e15 .given .1)
+
 pub effect-spec : {M : Type 1} → statement M
 effect-spec =
     tie.close
@@ -425,6 +459,12 @@ effect-spec =
     enum-known-e-14
     host-requires
     quiet-requires-14
+    enum-told-4
+    rfid-requires
+    quiet-requires-15
+    enum-known-e-15
+    mtmsrd-requires
+    quiet-requires-16
     returns
     same-length
     returns-2
@@ -444,4 +484,6 @@ effect-spec =
     returns-14
     returns-15
     returns-16
-    returns-17)
+    returns-17
+    returns-18
+    returns-19)

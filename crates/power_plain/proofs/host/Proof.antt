@@ -1,7 +1,7 @@
 -- `power_plain::host` meets its contract.
 use Rattle.base.specs.Answers as answer
 use Rattle.power_common.specs.Common.{did}
-use Rattle.power_plain.specs.Inner.{set-to}
+use Rattle.power_common.specs.Inner.{set-to}
 use Rattle.power_plain.specs.Plain.{host}
 use Rattle.rows.specs.Rows.{thread-with}
 use Rattle.rows.specs.declared.Head.{Head}

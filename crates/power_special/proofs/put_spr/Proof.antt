@@ -5,9 +5,6 @@ use borrow.Author.Needs.{needs}
 use Rattle.power_special.proofs.put_spr.Statement.{statement}
 use Rattle.power_special.proofs.put_spr.Tie as tie
 
-sub-c : tie.Need-sub-c
-sub-c c = search needs
-
 returns : tie.Need-returns
 unfolding put-spr
 returns c = simp (eq-eqb _ _ (c .if1 .taken))
@@ -16,19 +13,12 @@ returns-2 : tie.Need-returns-2
 unfolding put-spr
 returns-2 c = simp (eq-eqb _ _ (c .if2 .taken), ne-eqb _ _ (c .before .if1 .left))
 
+put-failure-requires : tie.Need-put-failure-requires
+put-failure-requires c κs = search needs
+
 returns-3 : tie.Need-returns-3
 unfolding put-spr
-returns-3 c = simp (eq-eqb _ _ (c .if3 .taken), ne-eqb _ _ (c .before .if2 .left), ne-eqb _ _ (c .before .before .if1 .left))
-
-mul-c : tie.Need-mul-c
-mul-c c = search needs
-
-add-c : tie.Need-add-c
-add-c c = search needs
-
-returns-4 : tie.Need-returns-4
-unfolding put-spr
-returns-4 c = simp (ne-eqb _ _ (c .before .if3 .left), ne-eqb _ _ (c .before .before .if2 .left), ne-eqb _ _ (c .before .before .before .if1 .left))
+returns-3 c = simp (c .put-failure .ensures, ne-eqb _ _ (c .before .if2 .left), ne-eqb _ _ (c .before .before .if1 .left))
 
 pub put-spr-spec : {M : Type 1} → statement M
-put-spr-spec = tie.close (tie.spec sub-c returns returns-2 returns-3 mul-c add-c returns-4)
+put-spr-spec = tie.close (tie.spec returns returns-2 put-failure-requires returns-3)

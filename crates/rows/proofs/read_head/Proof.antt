@@ -1,6 +1,6 @@
 -- `rows::read_head` meets its contract.
-use borrow.Author.Needs.{needs}
 use Rattle.rows.specs.Rows.{head-of}
+use borrow.Author.Needs.{needs}
 use Rattle.rows.proofs.read_head.Statement.{statement}
 use Rattle.rows.proofs.read_head.Tie as tie
 
@@ -31,11 +31,26 @@ element-copy-out-t28 c = search needs
 element-copy-out-t31 : tie.Need-element-copy-out-t31
 element-copy-out-t31 c = search needs
 
+element-copy-out-t35 : tie.Need-element-copy-out-t35
+element-copy-out-t35 c = search needs
+
+element-copy-out-t38 : tie.Need-element-copy-out-t38
+element-copy-out-t38 c = search needs
+
 element-copy-out-t5-2 : tie.Need-element-copy-out-t5-2
 element-copy-out-t5-2 c = search needs
 
-cast-t35 : tie.Need-cast-t35
-cast-t35 c = search needs
+cast-t42 : tie.Need-cast-t42
+cast-t42 c = search needs
+
+element-copy-out-t38-2 : tie.Need-element-copy-out-t38-2
+element-copy-out-t38-2 c = search needs
+
+element-copy-out-t35-2 : tie.Need-element-copy-out-t35-2
+element-copy-out-t35-2 c = search needs
+
+element-copy-out-t12-2 : tie.Need-element-copy-out-t12-2
+element-copy-out-t12-2 c = search needs
 
 element-copy-out-t31-2 : tie.Need-element-copy-out-t31-2
 element-copy-out-t31-2 c = search needs
@@ -46,27 +61,18 @@ element-copy-out-t28-2 c = search needs
 element-copy-out-t25-2 : tie.Need-element-copy-out-t25-2
 element-copy-out-t25-2 c = search needs
 
-element-copy-out-t12-2 : tie.Need-element-copy-out-t12-2
-element-copy-out-t12-2 c = search needs
-
 element-copy-out-t17 : tie.Need-element-copy-out-t17
 element-copy-out-t17 c = search needs
 
 element-copy-out-t20-2 : tie.Need-element-copy-out-t20-2
 element-copy-out-t20-2 c = search needs
 
-element-copy-out-t53 : tie.Need-element-copy-out-t53
-element-copy-out-t53 c = search needs
-
-element-copy-out-t56 : tie.Need-element-copy-out-t56
-element-copy-out-t56 c = search needs
-
-element-copy-out-t59 : tie.Need-element-copy-out-t59
-element-copy-out-t59 c = search needs
+element-copy-out-t64 : tie.Need-element-copy-out-t64
+element-copy-out-t64 c = search needs
 
 returns : tie.Need-returns
 unfolding head-of
-returns c = simp (c .before .before .before .before .before .before .before .before .before .before .before .before .before .before .state-at .ensures)
+returns c = simp (c .before .before .before .before .before .before .before .before .before .before .before .before .before .before .before .before .state-at .ensures)
 
 pub read-head-spec : {M : Type 1} → statement M
 read-head-spec =
@@ -81,15 +87,17 @@ read-head-spec =
     element-copy-out-t25
     element-copy-out-t28
     element-copy-out-t31
+    element-copy-out-t35
+    element-copy-out-t38
     element-copy-out-t5-2
-    cast-t35
+    cast-t42
+    element-copy-out-t38-2
+    element-copy-out-t35-2
+    element-copy-out-t12-2
     element-copy-out-t31-2
     element-copy-out-t28-2
     element-copy-out-t25-2
-    element-copy-out-t12-2
     element-copy-out-t17
     element-copy-out-t20-2
-    element-copy-out-t53
-    element-copy-out-t56
-    element-copy-out-t59
+    element-copy-out-t64
     returns)

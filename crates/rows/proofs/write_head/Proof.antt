@@ -43,8 +43,8 @@ element-copy-out-w2 c = search needs
 element-copy-out-w3 : tie.Need-element-copy-out-w3
 element-copy-out-w3 c = search needs
 
-cast-t24 : tie.Need-cast-t24
-cast-t24 c = search needs
+cast-t25 : tie.Need-cast-t25
+cast-t25 c = search needs
 
 -- the sets have their words by their type
 sized : (c : tie.Start) → (length (c .args .h .reads .words) ≡ 4) × (length (c .args .h .writes .words) ≡ 4)
@@ -56,7 +56,7 @@ small c = search needs
 
 returns : tie.Need-returns
 returns c =
-    let s = c .before .before .before .before .before .before .before .before .before .before .before .before .before .before .before .before .before .before .before in
+    let s = c .before .before .before .before .before .before .before .before .before .before .before .before .before .before .before .before .before .before .before .before in
     let z = sized s in
     rw (c .before .before .before .before .before .before .before .before .before .before .before .before .before .bit .ensures .0, c .before .before .before .before .before .before .before .before .before .before .before .before .bit2 .ensures .0, c .before .before .before .before .before .before .before .before .before .before .before .bit3 .ensures .0, c .before .before .before .before .before .before .before .before .before .before .state-number .ensures) (head-back (s .args .h) (small s) (z .0) (z .1))
 
@@ -76,5 +76,5 @@ write-head-spec =
     element-copy-out-w1
     element-copy-out-w2
     element-copy-out-w3
-    cast-t24
+    cast-t25
     returns)
