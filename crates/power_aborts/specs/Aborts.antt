@@ -1,6 +1,6 @@
 -- tabort., tabortwc. and tabortdc. (rules E3 to E5). Clauses by state first.
 use Prim.Native.Nat.{ℕ}
-use mathlib.Core.Bool.{Bool, cond}
+use mathlib.Core.Bool.{Bool, true, cond}
 use Rattle.transaction.specs.declared.Cause.{Cause}
 use Rattle.transaction.specs.declared.Cause.the-variants.{Abort}
 use Rattle.thread.specs.declared.State.{State}

@@ -9,6 +9,7 @@ use Rattle.rows.specs.declared.Head.{Head}
 use Rattle.thread.specs.declared.State.{State}
 use Rattle.thread.specs.declared.Thread.{Thread}
 use borrow.Author.Needs.{needs}
+use mathlib.Core.Bool.{true}
 use mathlib.Core.List.{List}
 use mathlib.Core.Path.{_≡_, sym, ap, _∙_}
 use Rattle.power_aborts.proofs.abort.Statement.{statement}
