@@ -137,10 +137,7 @@ pub fn fields_right(r: Row, f: Fields, len: usize) -> bool
     let ra = r.ra;
     let rb = r.rb;
     let index = r.index;
-    in_range(x, f.x)
-        & in_range(ra, f.ra)
-        & in_range(rb, f.rb)
-        & in_memory(index, f.index, len)
+    in_range(x, f.x) & in_range(ra, f.ra) & in_range(rb, f.rb) & in_memory(index, f.index, len)
 }
 
 // Whether it is so with X.

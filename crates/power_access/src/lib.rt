@@ -1,17 +1,19 @@
-// ld and std (rules A1, A2 and A4), each on its thread's rows and on memory; tlbie (rule E26), on its thread's rows.
+// ld and std (rules A1, A2 and A4), each on its thread's rows and on memory. tlbie: `page`.
+pub mod page;
+
 ghost use mathlib.Core.Path.{_≡_};
 ghost use mathlib.Core.List.{List};
 ghost use Prim.Native.Nat.{ℕ, _<_, _≤_};
 ghost use lib.ListN.{length};
 ghost use Rattle.base.specs.Answers as answer;
-ghost use Rattle.base.specs.Limits.{lines, pages, most-places, gprs};
-ghost use Rattle.transaction.specs.Transaction.{line, touches, touches-page};
+ghost use Rattle.base.specs.Limits.{lines, most-places, gprs};
+ghost use Rattle.transaction.specs.Transaction.{line, touches};
 ghost use Rattle.transaction.specs.declared.Cause.the-variants.{Footprint};
 ghost use Rattle.transaction.specs.declared.Transaction.{Transaction};
 ghost use Rattle.rows.specs.Rows.{head-of, held, standing};
 ghost use Rattle.rows.specs.Landed.{landed};
 ghost use Rattle.power_common.specs.Common.{did, quiet, fails};
-ghost use Rattle.power_access.specs.Access.{takes, ld, logs, meets-own, std, tlbie};
+ghost use Rattle.power_access.specs.Access.{takes, ld, logs, meets-own, std};
 ghost use Rattle.power_access.specs.Inner.{joining};
 use base::CR_FIELDS;
 use base::GPRS;
@@ -162,20 +164,8 @@ fn touches(words: &[u64; HEAD], line: usize) -> bool
     rows::has_line(words, 14, line)
 }
 
-// A line of the page is in one of the sets: a page is half of one word.
-fn touches_page(words: &[u64; HEAD], page: usize) -> bool
-    requires { ⌜ page < pages ⌝ }
-    ensures { λ b. ⌜ ((ix vl : List ℕ) → b ≡ touches-page (held (head-of (now (words .entry))) ix vl) page) ⌝ }
-{
-    let mask = lines::page_mask(page);
-    if rows::has_masked(words, 10, page / 2, mask) {
-        return true;
-    }
-    rows::has_masked(words, 14, page / 2, mask)
-}
-
 // In S: an event that meets the thread's own sets fails its transaction.
-fn meets_own(words: &mut [u64; HEAD], met: bool, cause: Cause, exact: bool) -> u8
+pub fn meets_own(words: &mut [u64; HEAD], met: bool, cause: Cause, exact: bool) -> u8
     ensures { λ a. ⌜ ((gpr cr kgpr kcr ix vl : List ℕ) → did a (standing gpr cr kgpr kcr (now (words .exit)) ix vl) ≡ meets-own met (standing gpr cr kgpr kcr (now (words .entry)) ix vl) cause exact) ⌝ }
 {
     if met {
@@ -231,48 +221,6 @@ pub fn std(
             Went {
                 answer: meets_own(&mut *words, met, Cause::OwnStore, true),
                 touch: Touch::Store(index as usize / LINE),
-            }
-        }
-    }
-}
-
-// tlbie (page): in T a disallowed instruction, which touches nothing.
-pub fn tlbie(
-    gpr: &mut [u64; GPRS],
-    cr: &mut [u8; CR_FIELDS],
-    kgpr: &[u64; GPRS],
-    kcr: &[u8; CR_FIELDS],
-    words: &mut [u64; HEAD],
-    page: u32,
-) -> Went
-    requires { ⌜ page < pages ⌝ }
-    ensures { λ r. ⌜ ((ix vl mem : List ℕ) (x : Transaction) → record { answer = r .answer; thread = standing (now (gpr .exit)) (now (cr .exit)) (now (kgpr .entry)) (now (kcr .entry)) (now (words .exit)) ix vl; touch = r .touch; memory = mem } ≡ landed (tlbie (head-of (now (words .entry)) .control .msr .state) (standing (now (gpr .entry)) (now (cr .entry)) (now (kgpr .entry)) (now (kcr .entry)) (now (words .entry)) ix vl) page) x mem) ⌝ }
-{
-    let s = rows::state_at(words[3]);
-    match s {
-        State::N => {
-            place::passes(&mut *words);
-            Went {
-                answer: answer::DONE,
-                touch: Touch::Page(page as usize),
-            }
-        }
-        State::T => Went {
-            answer: place::fails(
-                &mut *gpr,
-                &mut *cr,
-                kgpr,
-                kcr,
-                &mut *words,
-                Cause::Disallowed,
-            ),
-            touch: Touch::Untouched,
-        },
-        State::S => {
-            let met = touches_page(&*words, page as usize);
-            Went {
-                answer: meets_own(&mut *words, met, Cause::Translation, false),
-                touch: Touch::Page(page as usize),
             }
         }
     }

@@ -128,6 +128,6 @@ pub fn effect(
             let asked = Asked { t, s, tm, pr };
             quiet(power_returns::mtmsrd(gpr, cr, &*kgpr, &*kcr, words, asked))
         }
-        Event::Tlbie { page } => power_access::tlbie(gpr, cr, &*kgpr, &*kcr, words, page),
+        Event::Tlbie { page } => power_access::page::tlbie(gpr, cr, &*kgpr, &*kcr, words, page),
     }
 }

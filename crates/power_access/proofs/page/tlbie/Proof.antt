@@ -1,4 +1,4 @@
--- `power_access::tlbie` meets its contract.
+-- `power_access::page::tlbie` meets its contract.
 use Prim.Native.Nat.{ℕ}
 use Rattle.base.specs.Answers as answer
 use Rattle.power_access.specs.Access.{meets-own, invalidates, tlbie}
@@ -15,8 +15,8 @@ use borrow.Author.Needs.{needs}
 use mathlib.Core.Bool.{Bool, false}
 use mathlib.Core.List.{List}
 use mathlib.Core.Path.{_≡_, sym, ap, _∙_}
-use Rattle.power_access.proofs.tlbie.Statement.{statement}
-use Rattle.power_access.proofs.tlbie.Tie as tie
+use Rattle.power_access.proofs.page.tlbie.Statement.{statement}
+use Rattle.power_access.proofs.page.tlbie.Tie as tie
 
 -- the thread at the start, whatever its log
 abbrev thread : (c : tie.Start) → List ℕ → List ℕ → Thread

@@ -1,4 +1,4 @@
--- `power_access::touches_page` meets its contract.
+-- `power_access::page::touches_page` meets its contract.
 use Rattle.lines.specs.Lines.{word, has-page}
 use Rattle.lines.specs.Inner.{shared, page-mask}
 use Rattle.lines.proofs.Laws.{shared-page}
@@ -12,8 +12,8 @@ use mathlib.Core.List.{List}
 use lib.ListN.{getD}
 use Rattle.base.specs.Limits.{pages}
 use mathlib.Core.Path.{_≡_, sym, ap, _∙_}
-use Rattle.power_access.proofs.touches_page.Statement.{statement}
-use Rattle.power_access.proofs.touches_page.Tie as tie
+use Rattle.power_access.proofs.page.touches_page.Statement.{statement}
+use Rattle.power_access.proofs.page.touches_page.Tie as tie
 
 -- a set's word, by the mask that the code made
 reads-page : (ws : List ℕ) (p m : ℕ) → p < pages → m ≡ page-mask p → shared (getD ws (10 + p / 2) 0) m ≡ has-page (head-of ws .reads) p
