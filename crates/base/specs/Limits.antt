@@ -1,4 +1,4 @@
--- The limits (rules M1 to M11, V1, V9). src/lib.rt has the same numbers for the code.
+-- The limits (rules M1 to M11, M16, V1, V9). src/lib.rt has the same numbers for the code.
 use Prim.Native.Nat.{ℕ, _*_}
 
 -- doublewords of a line; lines of the largest memory; words of a line set, of 64 lines each
@@ -10,6 +10,16 @@ lines = 256
 
 abbrev pub words : ℕ
 words = 4
+
+-- lines of a page; doublewords of a page; pages of the largest memory (rule M16)
+abbrev pub page-lines : ℕ
+page-lines = 32
+
+abbrev pub page-size : ℕ
+page-size = line-size * page-lines
+
+abbrev pub pages : ℕ
+pages = 8
 
 -- doublewords of the largest memory, which is the fresh machine's
 abbrev pub most-memory : ℕ

@@ -1,4 +1,4 @@
-// The limits (rules M1 to M11, V1, V9). specs/Limits.antt has the same numbers for the definitions: change both together.
+// The limits (rules M1 to M11, M16, V1, V9). specs/Limits.antt has the same numbers for the definitions: change both together.
 
 pub mod answer;
 
@@ -16,6 +16,9 @@ pub const MEMORY: usize = 4096;
 
 // Words of a line set, of 64 lines each.
 pub const WORDS: usize = 4;
+
+// Doublewords of a page, which is 32 lines, half a word of a line set.
+pub const PAGE: usize = 512;
 
 // The most lines that a transaction's footprint has, and the most places that its log has.
 pub const FOOTPRINT: u32 = 32;

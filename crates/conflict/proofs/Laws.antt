@@ -1,8 +1,8 @@
 -- Laws of conflicts: one turn of the strike, which goes up through the threads; a thread that is not met; the accessor's own thread.
 use mathlib.Core.Path.{_≡_, refl, sym, ap, _∙_}
-use mathlib.Core.Bool.{Bool, true, false, cond, _&&_, and-false, or-false}
+use mathlib.Core.Bool.{Bool, true, false, cond, _&&_, _||_, and-false, or-false}
 use mathlib.Core.List.{List}
-use Prim.Native.Nat.{ℕ, zero, suc, _+_, _≤_}
+use Prim.Native.Nat.{ℕ, zero, suc, _+_, _/_, _≤_}
 use native.Mathlib.Decide.{ℕ-discrete}
 use native.Mathlib.Numerals.{add-one}
 use native.Mathlib.Omega.{arith}
@@ -11,24 +11,32 @@ use lib.Dec.{eqb}
 use lib.ListN.{set}
 use lib.Seq.{getD-set-other, set-comm}
 use Rattle.base.specs.Limits.{most-threads}
-use Rattle.lines.specs.Lines as lineset
+use Rattle.lines.specs.Lines.{word}
+use Rattle.lines.specs.Inner.{shared, line-mask, page-mask}
+use Rattle.lines.proofs.Laws.{shared-line, shared-page}
 use Rattle.transaction.specs.declared.Cause.{Cause}
+use Rattle.transaction.specs.declared.Cause.the-variants.{Translation}
 use Rattle.transaction.specs.declared.Touch.{Touch}
-use Rattle.transaction.specs.declared.Touch.the-variants.{Untouched, Load, Store}
+use Rattle.transaction.specs.declared.Touch.the-variants.{Untouched, Load, Store, Page}
 use Rattle.thread.specs.Thread.{is-live, felled}
 use Rattle.thread.specs.declared.State.{State}
 use Rattle.thread.specs.declared.Thread.{Thread}
 use Rattle.machine.specs.Machine.{thread, no-thread}
-use Rattle.rows.specs.Rows.{held}
-use Rattle.rows.specs.declared.Head.{Head}
 use Rattle.conflict.specs.Conflict.{hits, conflict-cause, struck, strike, others}
-use Rattle.conflict.specs.Inner.{touching, hit, others-from}
+use Rattle.conflict.specs.Inner.{Stands, others-from}
 
--- what the scan finds at a head
-pub hits-is : (h : Head) (ix vl : List ℕ) (stores : Bool) (l : ℕ) → hits (held h ix vl) (touching stores l) ≡ hit h stores l
+-- a line, loaded or stored, and a page have masks that stand for them
+pub load-stands : (l : ℕ) → Stands (Load l) false (l / 64) (line-mask l)
 unfolding hits
-hits-is h ix vl true l = refl
-hits-is h ix vl false l = sym (or-false (lineset.has (h .writes) l))
+load-stands l x = sym (shared-line (x .writes) l) ∙ sym (or-false (shared (word (x .writes) (l / 64)) (line-mask l)))
+
+pub store-stands : (l : ℕ) → Stands (Store l) true (l / 64) (line-mask l)
+unfolding hits
+store-stands l x = λ j. sym (shared-line (x .writes) l) j || sym (shared-line (x .reads) l) j
+
+pub page-stands : (p : ℕ) → Stands (Page p) true (p / 2) (page-mask p)
+unfolding hits
+page-stands p x = λ j. sym (shared-page (x .writes) p) j || sym (shared-page (x .reads) p) j
 
 module _ (t : Thread) (touch : Touch) (cause : Cause) (s : State) where
   pub struck-is : (b : Bool) → hits (t .transaction) touch ≡ b → struck s t touch cause ≡ cond (is-live s (t .control .msr .doomed) && b) (felled s t cause) t
@@ -82,3 +90,4 @@ unfolding others others-from
 others-set Untouched ts w x = refl
 others-set (Load l) ts w x = strike-set ts w (Load l) (conflict-cause (thread ts w .control .msr .state)) x most-threads
 others-set (Store l) ts w x = strike-set ts w (Store l) (conflict-cause (thread ts w .control .msr .state)) x most-threads
+others-set (Page p) ts w x = strike-set ts w (Page p) Translation x most-threads

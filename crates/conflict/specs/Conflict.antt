@@ -1,4 +1,4 @@
--- Conflicts with the other threads (rule A3).
+-- Conflicts with the other threads (rules A3 and A6).
 use Prim.Native.Nat.{ℕ, zero, suc}
 use mathlib.Core.Bool.{Bool, false, cond, _&&_, _||_}
 use mathlib.Core.List.{List}
@@ -8,20 +8,21 @@ use Rattle.base.specs.Limits.{most-threads}
 use Rattle.lines.specs.Lines as lineset
 use Rattle.transaction.specs.declared.Transaction.{Transaction}
 use Rattle.transaction.specs.declared.Cause.{Cause}
-use Rattle.transaction.specs.declared.Cause.the-variants.{PlainConflict, Conflict}
+use Rattle.transaction.specs.declared.Cause.the-variants.{PlainConflict, Conflict, Translation}
 use Rattle.transaction.specs.declared.Touch.{Touch}
-use Rattle.transaction.specs.declared.Touch.the-variants.{Untouched, Load, Store}
+use Rattle.transaction.specs.declared.Touch.the-variants.{Untouched, Load, Store, Page}
 use Rattle.thread.specs.Thread.{is-live, felled}
 use Rattle.thread.specs.declared.State.{State}
 use Rattle.thread.specs.declared.State.the-variants.{N, T, S}
 use Rattle.thread.specs.declared.Thread.{Thread}
 use Rattle.machine.specs.Machine.{thread}
 
--- what is touched meets a transaction: a load its write set, a store either set
+-- what is touched meets a transaction: a load its write set, a store either set, a tlbie either set by a line of its page
 unfoldable pub hits : Transaction → Touch → Bool
 hits x Untouched = false
 hits x (Load l) = lineset.has (x .writes) l
 hits x (Store l) = lineset.has (x .writes) l || lineset.has (x .reads) l
+hits x (Page p) = lineset.has-page (x .writes) p || lineset.has-page (x .reads) p
 
 -- the cause by the state that the access is made in
 abbrev pub conflict-cause : State → Cause
@@ -45,3 +46,4 @@ unfoldable pub others : Touch → List Thread → ℕ → List Thread
 others Untouched ts w = ts
 others (Load l) ts w = strike ts w (Load l) (conflict-cause (thread ts w .control .msr .state)) most-threads
 others (Store l) ts w = strike ts w (Store l) (conflict-cause (thread ts w .control .msr .state)) most-threads
+others (Page p) ts w = strike ts w (Page p) Translation most-threads

@@ -1,16 +1,19 @@
-// Conflicts with the other threads (rule A3), in place: where no set is met nothing is touched.
+// Conflicts with the other threads (rules A3 and A6), in place: where no set is met nothing is touched. A line and a page are both a mask for
+// one word of a set, so that the scan looks at one word of each other thread, or two where read sets count.
 ghost use mathlib.Core.Path.{_≡_};
-ghost use mathlib.Core.Bool.{Bool, true, cond};
+ghost use mathlib.Core.Bool.{true, cond};
 ghost use mathlib.Core.List.{List};
 ghost use Prim.Native.Nat.{ℕ, _<_};
 ghost use lib.Dec.{eqb};
 ghost use lib.ListN.{set};
-ghost use Rattle.base.specs.Limits.{lines, most-threads};
+ghost use Rattle.base.specs.Limits as limits;
+ghost use Rattle.base.specs.Limits.{most-threads};
 ghost use Rattle.transaction.specs.Inner.{Lined};
+ghost use Rattle.transaction.specs.declared.Touch.{Touch};
 ghost use Rattle.machine.specs.Machine.{thread};
-ghost use Rattle.rows.specs.Rows.{head-of, standing, rows, threads-of};
-ghost use Rattle.conflict.specs.Conflict.{conflict-cause, struck, strike};
-ghost use Rattle.conflict.specs.Inner.{touching, hit, others-from};
+ghost use Rattle.rows.specs.Rows.{head-of, held, standing, rows, threads-of};
+ghost use Rattle.conflict.specs.Conflict.{hits, conflict-cause, struck, strike};
+ghost use Rattle.conflict.specs.Inner.{hit, Stands, others-from};
 use base::CR_FIELDS;
 use base::GPRS;
 use base::THREADS;
@@ -19,16 +22,16 @@ use thread::State;
 use transaction::Cause;
 use transaction::Touch;
 
-// A store or a load of a line meets the thread's sets.
-fn hit(words: &[u64; HEAD], stores: bool, line: usize) -> bool
-    requires { ⌜ line < lines ⌝ }
-    ensures { λ b. ⌜ b ≡ hit (head-of (now (words .entry))) stores line ⌝ }
+// A mask for word k meets the thread's write set, or, where read sets count, its read set.
+fn hit(words: &[u64; HEAD], stores: bool, k: usize, mask: u64) -> bool
+    requires { ⌜ k < limits.words ⌝ }
+    ensures { λ b. ⌜ b ≡ hit (head-of (now (words .entry))) stores k mask ⌝ }
 {
-    if rows::has_line(words, 14, line) {
+    if rows::has_masked(words, 14, k, mask) {
         return true;
     }
     if stores {
-        return rows::has_line(words, 10, line);
+        return rows::has_masked(words, 10, k, mask);
     }
     false
 }
@@ -53,7 +56,7 @@ fn felled(
     words: &mut [u64; HEAD],
     cause: Cause,
 )
-    ensures { λ _. ⌜ ((ix vl : List ℕ) (stores : Bool) (l : ℕ) → hit (head-of (now (words .entry))) stores l ≡ true → standing (now (gpr .exit)) (now (cr .exit)) (now (kgpr .entry)) (now (kcr .entry)) (now (words .exit)) ix vl ≡ struck (head-of (now (words .entry)) .control .msr .state) (standing (now (gpr .entry)) (now (cr .entry)) (now (kgpr .entry)) (now (kcr .entry)) (now (words .entry)) ix vl) (touching stores l) cause) ⌝ }
+    ensures { λ _. ⌜ ((ix vl : List ℕ) (touch : Touch) → hits (held (head-of (now (words .entry))) ix vl) touch ≡ true → standing (now (gpr .exit)) (now (cr .exit)) (now (kgpr .entry)) (now (kcr .entry)) (now (words .exit)) ix vl ≡ struck (head-of (now (words .entry)) .control .msr .state) (standing (now (gpr .entry)) (now (cr .entry)) (now (kgpr .entry)) (now (kcr .entry)) (now (words .entry)) ix vl) touch cause) ⌝ }
 {
     let h = rows::read_head(&*words);
     let k = h.control;
@@ -81,13 +84,14 @@ fn struck(
     kcr: &[u8; CR_FIELDS],
     words: &mut [u64; HEAD],
     stores: bool,
-    line: usize,
+    k: usize,
+    mask: u64,
     cause: Cause,
 )
-    requires { ⌜ line < lines ⌝ }
-    ensures { λ _. ⌜ ((ix vl : List ℕ) → standing (now (gpr .exit)) (now (cr .exit)) (now (kgpr .entry)) (now (kcr .entry)) (now (words .exit)) ix vl ≡ struck (head-of (now (words .entry)) .control .msr .state) (standing (now (gpr .entry)) (now (cr .entry)) (now (kgpr .entry)) (now (kcr .entry)) (now (words .entry)) ix vl) (touching stores line) cause) ⌝ }
+    requires { ⌜ k < limits.words ⌝ }
+    ensures { λ _. ⌜ ((ix vl : List ℕ) (touch : Touch) → Stands touch stores k mask → standing (now (gpr .exit)) (now (cr .exit)) (now (kgpr .entry)) (now (kcr .entry)) (now (words .exit)) ix vl ≡ struck (head-of (now (words .entry)) .control .msr .state) (standing (now (gpr .entry)) (now (cr .entry)) (now (kgpr .entry)) (now (kcr .entry)) (now (words .entry)) ix vl) touch cause) ⌝ }
 {
-    if hit(&*words, stores, line) {
+    if hit(&*words, stores, k, mask) {
         felled(&mut *gpr, &mut *cr, kgpr, kcr, &mut *words, cause);
     }
 }
@@ -102,12 +106,13 @@ fn strike_at(
     i: usize,
     w: usize,
     stores: bool,
-    line: usize,
+    k: usize,
+    mask: u64,
     cause: Cause,
 )
     requires { ⌜ i < most-threads ⌝ }
-    requires { ⌜ line < lines ⌝ }
-    ensures { λ _. ⌜ ((ix vl : List (List ℕ)) → let ts = threads-of (rows (now (gpr .entry)) (now (cr .entry)) (now (kgpr .entry)) (now (kcr .entry)) (now (words .entry)) ix vl) in threads-of (rows (now (gpr .exit)) (now (cr .exit)) (now (kgpr .entry)) (now (kcr .entry)) (now (words .exit)) ix vl) ≡ cond (eqb i w) ts (set ts i (struck (thread ts i .control .msr .state) (thread ts i) (touching stores line) cause))) ⌝ }
+    requires { ⌜ k < limits.words ⌝ }
+    ensures { λ _. ⌜ ((ix vl : List (List ℕ)) (touch : Touch) → Stands touch stores k mask → let ts = threads-of (rows (now (gpr .entry)) (now (cr .entry)) (now (kgpr .entry)) (now (kcr .entry)) (now (words .entry)) ix vl) in threads-of (rows (now (gpr .exit)) (now (cr .exit)) (now (kgpr .entry)) (now (kcr .entry)) (now (words .exit)) ix vl) ≡ cond (eqb i w) ts (set ts i (struck (thread ts i .control .msr .state) (thread ts i) touch cause))) ⌝ }
 {
     if i == w {
         return;
@@ -122,7 +127,8 @@ fn strike_at(
         &kcr[i],
         &mut words[i],
         stores,
-        line,
+        k,
+        mask,
         cause,
     );
 }
@@ -136,11 +142,12 @@ fn strike(
     words: &mut [[u64; HEAD]; THREADS],
     w: usize,
     stores: bool,
-    line: usize,
+    k: usize,
+    mask: u64,
     cause: Cause,
 )
-    requires { ⌜ line < lines ⌝ }
-    ensures { λ _. ⌜ ((ix vl : List (List ℕ)) → threads-of (rows (now (gpr .exit)) (now (cr .exit)) (now (kgpr .entry)) (now (kcr .entry)) (now (words .exit)) ix vl) ≡ strike (threads-of (rows (now (gpr .entry)) (now (cr .entry)) (now (kgpr .entry)) (now (kcr .entry)) (now (words .entry)) ix vl)) w (touching stores line) cause most-threads) ⌝ }
+    requires { ⌜ k < limits.words ⌝ }
+    ensures { λ _. ⌜ ((ix vl : List (List ℕ)) (touch : Touch) → Stands touch stores k mask → threads-of (rows (now (gpr .exit)) (now (cr .exit)) (now (kgpr .entry)) (now (kcr .entry)) (now (words .exit)) ix vl) ≡ strike (threads-of (rows (now (gpr .entry)) (now (cr .entry)) (now (kgpr .entry)) (now (kcr .entry)) (now (words .entry)) ix vl)) w touch cause most-threads) ⌝ }
 {
     for i in 0..THREADS {
         strike_at(
@@ -152,7 +159,8 @@ fn strike(
             i,
             w,
             stores,
-            line,
+            k,
+            mask,
             cause,
         );
     }
@@ -182,7 +190,8 @@ pub fn others(
             &mut *words,
             w,
             false,
-            l,
+            l / 64,
+            lines::line_mask(l),
             conflict_cause(s),
         ),
         Touch::Store(l) => strike(
@@ -193,8 +202,21 @@ pub fn others(
             &mut *words,
             w,
             true,
-            l,
+            l / 64,
+            lines::line_mask(l),
             conflict_cause(s),
+        ),
+        Touch::Page(p) => strike(
+            &mut *gpr,
+            &mut *cr,
+            kgpr,
+            kcr,
+            &mut *words,
+            w,
+            true,
+            p / 2,
+            lines::page_mask(p),
+            Cause::Translation,
         ),
     }
 }

@@ -1,15 +1,15 @@
 -- What right operands tell of registers and indices.
 use mathlib.Core.Path.{_≡_}
-use mathlib.Core.Bool.{Bool, true, not, _&&_, _||_}
-use Prim.Native.Nat.{ℕ, _<_}
+use mathlib.Core.Bool.{Bool, true, _&&_}
+use Prim.Native.Nat.{ℕ, _*_, _<_}
 use native.Mathlib.Omega.{arith}
 use borrow.Author.Tests.{ltb-true, leb-true}
-use lib.Dec.{ltb}
+use Rattle.base.specs.Limits.{page-size}
 use Rattle.base.proofs.Below.{and-left, and-right}
-use Rattle.event.specs.Rows.{row, in-range, fields-right}
+use Rattle.event.specs.Rows.{row, in-range, in-memory, fields-right}
 use Rattle.event.specs.Event.{fields-of, kind, operands-right}
 use Rattle.event.specs.declared.Event.{Event}
-use Rattle.event.specs.declared.Event.the-variants.{Tabort, Tabortwc, Tabortdc, Tcheck, Treclaim, Mtspr, Mfspr, Ld, Std, Addi}
+use Rattle.event.specs.declared.Event.the-variants.{Tabort, Tabortwc, Tabortdc, Tcheck, Treclaim, Mtspr, Mfspr, Ld, Std, Addi, Tlbie}
 use Rattle.event.specs.declared.Fields.{Fields}
 use Rattle.event.specs.declared.rows.Row.{Row}
 
@@ -18,7 +18,7 @@ record Right (r : Row) (f : Fields) (len : ℕ) : Type 0 where
   x : in-range (r .x) (f .x) ≡ true
   ra : in-range (r .ra) (f .ra) ≡ true
   rb : in-range (r .rb) (f .rb) ≡ true
-  index : (not (r .index) || ltb (f .index) len) ≡ true
+  index : in-memory (r .index) (f .index) len ≡ true
 
 right : (r : Row) (f : Fields) (len : ℕ) → fields-right r f len ≡ true → Right r f len
 right r f len p =
@@ -72,3 +72,7 @@ std-in ra i len p = let t = tests _ len p in (ltb-true ra 32 (t .ra), ltb-true i
 pub addi-registers : (rt ra si len : ℕ) → operands-right (Addi rt ra si) len ≡ true → (rt < 32) × (ra < 32)
 unfolding row kind
 addi-registers rt ra si len p = let t = tests _ len p in (ltb-true rt 32 (t .x), ltb-true ra 32 (t .ra))
+
+pub tlbie-in : (p len : ℕ) → operands-right (Tlbie p) len ≡ true → page-size * p < len
+unfolding row kind
+tlbie-in p len h = ltb-true (page-size * p) len (tests _ len h .index)

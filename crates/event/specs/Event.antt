@@ -1,11 +1,11 @@
--- The nineteen kinds of event (rules E1 to E19), the fields of each, and what its row tells.
+-- The twenty kinds of event (rules E1 to E19, E26), the fields of each, and what its row tells.
 use Prim.Native.Nat.{ℕ, _+_, _*_, _/_, _%_}
 use mathlib.Core.Bool.{Bool, cond}
 use lib.Dec.{eqb}
 use Rattle.base.specs.Below.{bit}
 use Rattle.event.specs.Rows.{row, fields-right, holds}
 use Rattle.event.specs.declared.Event.{Event}
-use Rattle.event.specs.declared.Event.the-variants.{Tbegin, Tend, Tabort, Tabortwc, Tabortdc, Tsr, Tcheck, Treclaim, Trechkpt, Mtspr, Mfspr, Ld, Std, Addi, Disallowed, Interrupt, Host, Rfid, Mtmsrd}
+use Rattle.event.specs.declared.Event.the-variants.{Tbegin, Tend, Tabort, Tabortwc, Tabortdc, Tsr, Tcheck, Treclaim, Trechkpt, Mtspr, Mfspr, Ld, Std, Addi, Disallowed, Interrupt, Host, Rfid, Mtmsrd, Tlbie}
 use Rattle.event.specs.declared.Fields.{Fields}
 
 -- kinds that a refusal names; src/lib.rt has the same numbers for the code
@@ -29,6 +29,9 @@ rfid-kind = 18
 
 abbrev pub mtmsrd-kind : ℕ
 mtmsrd-kind = 19
+
+abbrev pub tlbie-kind : ℕ
+tlbie-kind = 26
 
 abbrev pub fields : (kind thread x ra rb flags index si : ℕ) → Fields
 fields k w x ra rb flags i si = record { kind = k; thread = w; x = x; ra = ra; rb = rb; flags = flags; index = i; si = si }
@@ -54,6 +57,7 @@ fields-of w Interrupt = fields 16 w 0 0 0 0 0 0
 fields-of w (Host pr tm) = fields host-kind w 0 0 0 (bit pr + 2 * bit tm) 0 0
 fields-of w Rfid = fields rfid-kind w 0 0 0 0 0 0
 fields-of w (Mtmsrd t s tm pr) = fields mtmsrd-kind w 0 0 0 (bit s + 2 * bit t + 4 * bit tm + 8 * bit pr) 0 0
+fields-of w (Tlbie page) = fields tlbie-kind w 0 0 0 0 page 0
 
 -- the event of fields of a right kind
 unfoldable pub event-of : Fields → Event
@@ -76,7 +80,8 @@ event-of f =
     (cond (eqb (f .kind) 16) Interrupt
     (cond (eqb (f .kind) host-kind) (Host (eqb (f .flags % 2) 1) (eqb (f .flags / 2 % 2) 1))
     (cond (eqb (f .kind) rfid-kind) Rfid
-    (Mtmsrd (eqb (f .flags / 2 % 2) 1) (eqb (f .flags % 2) 1) (eqb (f .flags / 4 % 2) 1) (eqb (f .flags / 8 % 2) 1)))))))))))))))))))
+    (cond (eqb (f .kind) mtmsrd-kind) (Mtmsrd (eqb (f .flags / 2 % 2) 1) (eqb (f .flags % 2) 1) (eqb (f .flags / 4 % 2) 1) (eqb (f .flags / 8 % 2) 1))
+    (Tlbie (f .index))))))))))))))))))))
 
 -- the number of an event's kind
 unfoldable pub kind : Event → ℕ

@@ -1,54 +1,57 @@
 -- One row for each kind: the fields that it uses and their ranges, its largest flags, whether it is a TM instruction and whether it is
 -- privileged (docs/RULES.md, the table of kinds). The numbers 4, 8, 9, 11 and 12 follow it.
-use Prim.Native.Nat.{ℕ, zero, suc}
-use mathlib.Core.Bool.{Bool, true, false, not, _&&_, _||_}
+use Prim.Native.Nat.{ℕ, zero, suc, _*_}
+use mathlib.Core.Bool.{Bool, true, false, _&&_, _||_}
 use mathlib.Core.List.{List, [], _∷_}
-use lib.Dec.{leb, ltb}
-use lib.ListN.{getD, length}
-use Rattle.base.specs.Limits.{gprs, cr-fields}
+use lib.Dec.{eqb, leb, ltb}
+use lib.ListN.{getD}
+use Rattle.base.specs.Limits.{gprs, cr-fields, page-size}
 use Rattle.event.specs.declared.Fields.{Fields}
 use Rattle.event.specs.declared.rows.Use.{Use}
 use Rattle.event.specs.declared.rows.Use.the-variants.{No, Gpr, To, Bf, Spr}
 use Rattle.event.specs.declared.rows.When.{When}
 use Rattle.event.specs.declared.rows.When.the-variants.{Never, Always, TmSpr, Srr}
+use Rattle.event.specs.declared.rows.Span.{Span}
+use Rattle.event.specs.declared.rows.Span.the-variants.{Without, Doubleword, Page}
 use Rattle.event.specs.declared.rows.Row.{Row}
 
-abbrev pub line : (x ra rb : Use) (flags : ℕ) (index si : Bool) (tm privileged : When) → Row
+abbrev pub line : (x ra rb : Use) (flags : ℕ) (index : Span) (si : Bool) (tm privileged : When) → Row
 line x ra rb flags index si tm privileged =
     record { x = x; ra = ra; rb = rb; flags = flags; index = index; si = si; tm = tm; privileged = privileged }
+
+-- a number that is no kind uses nothing
+abbrev pub no-row : Row
+no-row = line No No No 0 Without false Never Never
 
 -- X, RA, RB, largest flags, index, SI, TM instruction, privileged
 unfoldable pub rows : List Row
 rows =
-    line No No No 1 false false Always Never  -- 1 tbegin.: R
-    ∷ line No No No 1 false false Always Never  -- 2 tend.: A
-    ∷ line No Gpr No 0 false false Always Never  -- 3 tabort.
-    ∷ line To Gpr Gpr 0 false false Always Never  -- 4 tabortwc.
-    ∷ line To Gpr Gpr 0 false false Always Never  -- 5 tabortdc.
-    ∷ line No No No 1 false false Always Never  -- 6 tsr.: L
-    ∷ line Bf No No 0 false false Always Never  -- 7 tcheck
-    ∷ line No Gpr No 0 false false Always Always  -- 8 treclaim.
-    ∷ line No No No 0 false false Always Always  -- 9 trechkpt.
-    ∷ line Spr Gpr No 0 false false TmSpr Srr  -- 10 mtspr
-    ∷ line Spr Gpr No 0 false false TmSpr Srr  -- 11 mfspr: RA is RT
-    ∷ line Gpr No No 0 true false Never Never  -- 12 ld
-    ∷ line No Gpr No 0 true false Never Never  -- 13 std
-    ∷ line Gpr Gpr No 0 false true Never Never  -- 14 addi
-    ∷ line No No No 0 false false Never Never  -- 15 a disallowed instruction
-    ∷ line No No No 0 false false Never Never  -- 16 interrupt taken
-    ∷ line No No No 3 false false Never Never  -- 17 host: PR + 2 x TM
-    ∷ line No No No 0 false false Never Always  -- 18 rfid
-    ∷ line No No No 15 false false Never Always  -- 19 mtmsrd: TS + 4 x TM + 8 x PR
+    line No No No 1 Without false Always Never  -- 1 tbegin.: R
+    ∷ line No No No 1 Without false Always Never  -- 2 tend.: A
+    ∷ line No Gpr No 0 Without false Always Never  -- 3 tabort.
+    ∷ line To Gpr Gpr 0 Without false Always Never  -- 4 tabortwc.
+    ∷ line To Gpr Gpr 0 Without false Always Never  -- 5 tabortdc.
+    ∷ line No No No 1 Without false Always Never  -- 6 tsr.: L
+    ∷ line Bf No No 0 Without false Always Never  -- 7 tcheck
+    ∷ line No Gpr No 0 Without false Always Always  -- 8 treclaim.
+    ∷ line No No No 0 Without false Always Always  -- 9 trechkpt.
+    ∷ line Spr Gpr No 0 Without false TmSpr Srr  -- 10 mtspr
+    ∷ line Spr Gpr No 0 Without false TmSpr Srr  -- 11 mfspr: RA is RT
+    ∷ line Gpr No No 0 Doubleword false Never Never  -- 12 ld
+    ∷ line No Gpr No 0 Doubleword false Never Never  -- 13 std
+    ∷ line Gpr Gpr No 0 Without true Never Never  -- 14 addi
+    ∷ line No No No 0 Without false Never Never  -- 15 a disallowed instruction
+    ∷ line No No No 0 Without false Never Never  -- 16 interrupt taken
+    ∷ line No No No 3 Without false Never Never  -- 17 host: PR + 2 x TM
+    ∷ line No No No 0 Without false Never Always  -- 18 rfid
+    ∷ line No No No 15 Without false Never Always  -- 19 mtmsrd: TS + 4 x TM + 8 x PR
+    ∷ no-row ∷ no-row ∷ no-row ∷ no-row ∷ no-row ∷ no-row  -- 20 to 25 are no kinds yet
+    ∷ line No No No 0 Page false Never Always  -- 26 tlbie
     ∷ []
 
--- number 8: the kinds are those that have a row
+-- number 8: the kinds are those that have a row of their own
 unfoldable pub kind-right : ℕ → Bool
-unfolding rows
-kind-right k = leb 1 k && leb k (length rows)
-
--- a number that is no kind uses nothing
-abbrev pub no-row : Row
-no-row = line No No No 0 false false Never Never
+kind-right k = leb 1 k && leb k 19 || eqb k 26
 
 unfoldable pub row : ℕ → Row
 unfolding rows
@@ -79,10 +82,22 @@ in-range To v = ltb v 32
 in-range Bf v = leb v cr-fields
 in-range Spr v = srr v || tm-spr v
 
--- number 4: each used field is in range, and a used index in a memory of len doublewords
+-- the index field is used: for a doubleword, or for a page
+abbrev pub spans : Span → Bool
+spans Without = false
+spans Doubleword = true
+spans Page = true
+
+-- number 4: a doubleword is in a memory of len doublewords, and so is the first line of a page (rule M16)
+abbrev pub in-memory : Span → ℕ → ℕ → Bool
+in-memory Without i len = true
+in-memory Doubleword i len = ltb i len
+in-memory Page i len = ltb (page-size * i) len
+
+-- number 4: each used field is in range, and what a used index names in a memory of len doublewords
 abbrev pub fields-right : Row → Fields → ℕ → Bool
 fields-right r f len =
-    in-range (r .x) (f .x) && in-range (r .ra) (f .ra) && in-range (r .rb) (f .rb) && (not (r .index) || ltb (f .index) len)
+    in-range (r .x) (f .x) && in-range (r .ra) (f .ra) && in-range (r .rb) (f .rb) && in-memory (r .index) (f .index) len
 
 -- whether it is so with X
 abbrev pub holds : When → ℕ → Bool

@@ -1,4 +1,4 @@
-// The nineteen kinds of event, each with its operands and nothing else (rules E1 to E19); the fields of each, and a row for each kind.
+// The twenty kinds of event, each with its operands and nothing else (rules E1 to E19, E26); the fields of each, and a row for each kind.
 pub mod rows;
 
 ghost use mathlib.Core.Path.{_≡_};
@@ -7,6 +7,7 @@ ghost use Rattle.base.specs.Below.{bit};
 ghost use Rattle.event.specs.Rows.{row};
 ghost use Rattle.event.specs.Event.{fields, fields-of, event-of, kind, operands-right, tm-instruction, privileged};
 use rows::Row;
+use rows::Span;
 use rows::Use;
 use rows::When;
 use rows::line;
@@ -21,6 +22,12 @@ const TO: Use = Use::To;
 const BF: Use = Use::Bf;
 
 const SPR: Use = Use::Spr;
+
+const WITHOUT: Span = Span::Without;
+
+const DOUBLEWORD: Span = Span::Doubleword;
+
+const PAGE: Span = Span::Page;
 
 const NEVER: When = When::Never;
 
@@ -96,6 +103,9 @@ pub enum Event {
         tm: bool,
         pr: bool,
     },
+    Tlbie {
+        page: u32,
+    },
 }
 
 // Kinds that a refusal names. specs/Event.antt has the same numbers for the definitions.
@@ -112,6 +122,8 @@ pub const HOST: u8 = 17;
 pub const RFID: u8 = 18;
 
 pub const MTMSRD: u8 = 19;
+
+pub const TLBIE: u8 = 26;
 
 // What a record holds, whatever its layout. X is SPR, BF or TO, else RT; RA is RT for mfspr; flags are R, A, L, PR + 2 x TM or
 // TS + 4 x TM + 8 x PR.
@@ -132,22 +144,23 @@ pub fn row(kind: u8) -> Row
     ensures { λ r. ⌜ r ≡ row kind ⌝ }
 {
     match kind {
-        1..=2 => line(NO, NO, NO, 1, false, false, ALWAYS, NEVER),
-        3 => line(NO, GPR, NO, 0, false, false, ALWAYS, NEVER),
-        4..=5 => line(TO, GPR, GPR, 0, false, false, ALWAYS, NEVER),
-        6 => line(NO, NO, NO, 1, false, false, ALWAYS, NEVER),
-        7 => line(BF, NO, NO, 0, false, false, ALWAYS, NEVER),
-        8 => line(NO, GPR, NO, 0, false, false, ALWAYS, ALWAYS),
-        9 => line(NO, NO, NO, 0, false, false, ALWAYS, ALWAYS),
-        10..=11 => line(SPR, GPR, NO, 0, false, false, TM_SPR, SRR),
-        12 => line(GPR, NO, NO, 0, true, false, NEVER, NEVER),
-        13 => line(NO, GPR, NO, 0, true, false, NEVER, NEVER),
-        14 => line(GPR, GPR, NO, 0, false, true, NEVER, NEVER),
-        15..=16 => line(NO, NO, NO, 0, false, false, NEVER, NEVER),
-        17 => line(NO, NO, NO, 3, false, false, NEVER, NEVER),
-        18 => line(NO, NO, NO, 0, false, false, NEVER, ALWAYS),
-        19 => line(NO, NO, NO, 15, false, false, NEVER, ALWAYS),
-        _ => line(NO, NO, NO, 0, false, false, NEVER, NEVER),
+        1..=2 => line(NO, NO, NO, 1, WITHOUT, false, ALWAYS, NEVER),
+        3 => line(NO, GPR, NO, 0, WITHOUT, false, ALWAYS, NEVER),
+        4..=5 => line(TO, GPR, GPR, 0, WITHOUT, false, ALWAYS, NEVER),
+        6 => line(NO, NO, NO, 1, WITHOUT, false, ALWAYS, NEVER),
+        7 => line(BF, NO, NO, 0, WITHOUT, false, ALWAYS, NEVER),
+        8 => line(NO, GPR, NO, 0, WITHOUT, false, ALWAYS, ALWAYS),
+        9 => line(NO, NO, NO, 0, WITHOUT, false, ALWAYS, ALWAYS),
+        10..=11 => line(SPR, GPR, NO, 0, WITHOUT, false, TM_SPR, SRR),
+        12 => line(GPR, NO, NO, 0, DOUBLEWORD, false, NEVER, NEVER),
+        13 => line(NO, GPR, NO, 0, DOUBLEWORD, false, NEVER, NEVER),
+        14 => line(GPR, GPR, NO, 0, WITHOUT, true, NEVER, NEVER),
+        15..=16 => line(NO, NO, NO, 0, WITHOUT, false, NEVER, NEVER),
+        17 => line(NO, NO, NO, 3, WITHOUT, false, NEVER, NEVER),
+        18 => line(NO, NO, NO, 0, WITHOUT, false, NEVER, ALWAYS),
+        19 => line(NO, NO, NO, 15, WITHOUT, false, NEVER, ALWAYS),
+        26 => line(NO, NO, NO, 0, PAGE, false, NEVER, ALWAYS),
+        _ => line(NO, NO, NO, 0, WITHOUT, false, NEVER, NEVER),
     }
 }
 
@@ -208,6 +221,7 @@ pub fn fields_of(thread: u8, e: Event) -> Fields
         Event::Mtmsrd { t, s, tm, pr } => {
             filled(MTMSRD, thread, 0, 0, 0, asked_flags(t, s, tm, pr), 0, 0)
         }
+        Event::Tlbie { page } => filled(TLBIE, thread, 0, 0, 0, 0, page, 0),
     }
 }
 
@@ -245,13 +259,14 @@ pub fn event_of(f: Fields) -> Event
             Event::Host { pr, tm }
         }
         18 => Event::Rfid,
-        _ => {
+        19 => {
             let t = flags / 2 % 2 == 1;
             let s = flags % 2 == 1;
             let tm = flags / 4 % 2 == 1;
             let pr = flags / 8 % 2 == 1;
             Event::Mtmsrd { t, s, tm, pr }
         }
+        _ => Event::Tlbie { page: index },
     }
 }
 

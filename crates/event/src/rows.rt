@@ -1,9 +1,10 @@
 // A kind's row: what it uses each field for, and what follows.
 ghost use mathlib.Core.Path.{_≡_};
-ghost use Rattle.event.specs.Rows.{line, used, tm-spr, srr, in-range, fields-right, holds};
+ghost use Rattle.event.specs.Rows.{line, used, tm-spr, srr, in-range, spans, in-memory, fields-right, holds};
 use crate::Fields;
 use base::CR_FIELDS;
 use base::GPRS;
+use base::PAGE;
 
 // What a kind uses a field for.
 pub enum Use {
@@ -12,6 +13,13 @@ pub enum Use {
     To,
     Bf,
     Spr,
+}
+
+// What a kind's index names: nothing, a doubleword or a page.
+pub enum Span {
+    Without,
+    Doubleword,
+    Page,
 }
 
 // Whether a kind is a TM instruction, or privileged: a function of X. Two are for SPR 128 to 131, and for SPR 26 and 27.
@@ -28,7 +36,7 @@ pub struct Row {
     pub ra: Use,
     pub rb: Use,
     pub flags: u8,
-    pub index: bool,
+    pub index: Span,
     pub si: bool,
     pub tm: When,
     pub privileged: When,
@@ -40,7 +48,7 @@ pub fn line(
     ra: Use,
     rb: Use,
     flags: u8,
-    index: bool,
+    index: Span,
     si: bool,
     tm: When,
     privileged: When,
@@ -99,17 +107,37 @@ fn in_range(u: Use, v: u8) -> bool
     }
 }
 
-// Each used field is in range, and a used index in a memory of len doublewords.
+// Whether the index field is used.
+pub fn spans(s: Span) -> bool
+    ensures { λ r. ⌜ r ≡ spans s ⌝ }
+{
+    match s {
+        Span::Without => false,
+        Span::Doubleword => true,
+        Span::Page => true,
+    }
+}
+
+// A doubleword is in a memory of len doublewords, and so is the first line of a page.
+fn in_memory(s: Span, i: u32, len: usize) -> bool
+    ensures { λ r. ⌜ r ≡ in-memory s i len ⌝ }
+{
+    match s {
+        Span::Without => true,
+        Span::Doubleword => (i as usize) < len,
+        Span::Page => PAGE * (i as usize) < len,
+    }
+}
+
+// Each used field is in range, and what a used index names in a memory of len doublewords.
 pub fn fields_right(r: Row, f: Fields, len: usize) -> bool
     ensures { λ b. ⌜ b ≡ fields-right r f len ⌝ }
 {
     let x = r.x;
     let ra = r.ra;
     let rb = r.rb;
-    in_range(x, f.x)
-        & in_range(ra, f.ra)
-        & in_range(rb, f.rb)
-        & (!r.index | ((f.index as usize) < len))
+    let index = r.index;
+    in_range(x, f.x) & in_range(ra, f.ra) & in_range(rb, f.rb) & in_memory(index, f.index, len)
 }
 
 // Whether it is so with X.

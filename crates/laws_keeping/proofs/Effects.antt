@@ -24,7 +24,7 @@ use Rattle.event.specs.declared.Event.{Event}
 use Rattle.event.specs.declared.Event.the-variants.{Trechkpt, Mtspr}
 use Rattle.event.proofs.Laws.{ld-in, std-in}
 use Rattle.power_common.specs.Common.{passes, cr0-from-state, put-gpr, own-recording, fails, dooms, cr0-only, leveled, abort-cause}
-use Rattle.power_access.specs.Access.{tracked, ld-overflows, std-overflows, takes, joins, ld, logs, meets-own, std}
+use Rattle.power_access.specs.Access.{tracked, ld-overflows, std-overflows, takes, joins, ld, logs, meets-own, std, tlbie}
 use Rattle.power_aborts.specs.Aborts.{tabort, tabort-if}
 use Rattle.power_begins.specs.Begins.{begins, tbegin, commits, tend, moves, tsuspend, tresume, tsr}
 use Rattle.power_reclaims.specs.Reclaims.{check-field, tcheck, treclaim, trechkpt}
@@ -87,9 +87,13 @@ fails-fine : (t : Thread) (len : ℕ) (cause : Cause) → Right T t len → Fine
 unfolding fails
 fails-fine t len cause r = valid (failure-t t cause true _ len r)
 
-dooms-fine : (t : Thread) (len : ℕ) (cause : Cause) → Right S t len → Fine len (dooms t cause)
+dooms-fine : (t : Thread) (len : ℕ) (cause : Cause) (exact : Bool) → Right S t len → Fine len (dooms t cause exact)
 unfolding dooms
-dooms-fine t len cause r = valid (passed (failure-s t cause true _ len r))
+dooms-fine t len cause exact r = valid (passed (failure-s t cause exact _ len r))
+
+meets-own-fine : (t : Thread) (len : ℕ) (met : Bool) (cause : Cause) (exact : Bool) → Right S t len → Fine len (meets-own met t cause exact)
+unfolding meets-own
+meets-own-fine t len met cause exact r = fork (Fine len) met (λ p. dooms-fine t len cause exact r) (λ p. valid (passed r))
 
 module _ (t : Thread) (len : ℕ) where
   cr0-only-fine : {s : State} → Right s t len → Fine len (cr0-only t)
@@ -139,7 +143,7 @@ module _ (t : Thread) (len : ℕ) where
   unfolding tabort
   tabort-fine N cause r = cr0-only-fine r
   tabort-fine T cause r = fails-fine t len cause r
-  tabort-fine S cause r = dooms-fine (cr0-from-state t) len cause (from-state r)
+  tabort-fine S cause r = dooms-fine (cr0-from-state t) len cause true (from-state r)
 
   tabort-if-fine : (held : Bool) → Right (t .control .msr .state) t len → Fine len (tabort-if t held)
   unfolding tabort-if
@@ -262,10 +266,16 @@ module _ (t : Thread) (len : ℕ) where
         (record { shape = store-shaped _ i v (r .holds .shape); held = store-held _ i v len (r .holds .shape) inside below (q .1) (r .holds .held) }))))
 
     std-fine : (s : State) (v : ℕ) → Right s t len → Does len (std s t v i)
-    unfolding std meets-own
+    unfolding std
     std-fine N v r = valid (passed r)
     std-fine T v r = logs-fine v r
-    std-fine S v r = fork (Fine len) (transaction.touches (t .transaction) (transaction.line i)) (λ p. dooms-fine t len _ r) (λ p. valid (passed r))
+    std-fine S v r = meets-own-fine t len _ _ _ r
+
+  tlbie-fine : (s : State) (p : ℕ) → Right s t len → Does len (tlbie s t p)
+  unfolding tlbie
+  tlbie-fine N p r = valid (passed r)
+  tlbie-fine T p r = fails-fine t len _ r
+  tlbie-fine S p r = meets-own-fine t len _ _ _ r
 
   disallowed-fine : (s : State) → Right s t len → Fine len (disallowed s t)
   unfolding disallowed
@@ -342,6 +352,7 @@ effect-keeps e t mem z h o q =
       disallowed = λ o q. disallowed-fine t _ _ r;
       interrupt = λ o q. interrupt-fine t _ _ r;
       host = λ pr tm o q. host-fine t _ pr tm r;
+      tlbie = λ p o q. tlbie-fine t _ _ p r;
       returns = λ e a at m o q. taking-fine t _ _ _ _ _ _ _ _ (m _ (r .addresses .nia)) r;
       registers = λ e g s o q. valid (passed (with-generals r (g t) (s t)));
     })

@@ -11,7 +11,7 @@ use Rattle.lines.specs.Lines as lineset
 use Rattle.transaction.specs.Transaction as transaction
 use Rattle.transaction.specs.declared.Cause.{Cause}
 use Rattle.transaction.specs.declared.Touch.{Touch}
-use Rattle.transaction.specs.declared.Touch.the-variants.{Untouched, Load, Store}
+use Rattle.transaction.specs.declared.Touch.the-variants.{Untouched, Load, Store, Page}
 use Rattle.transaction.specs.declared.Transaction.{Transaction}
 use Rattle.thread.specs.declared.Thread.{Thread}
 use Rattle.machine.specs.Machine.{thread}
@@ -68,6 +68,7 @@ unfolding others
 others-length Untouched ts w = refl
 others-length (Load l) ts w = strike-length ts w (Load l) _ most-threads
 others-length (Store l) ts w = strike-length ts w (Store l) _ most-threads
+others-length (Page p) ts w = strike-length ts w (Page p) _ most-threads
 
 module _ (ts : List Thread) (w v : ℕ) (c : Bool) (len : ℕ) (z : length ts ≡ most-threads) (b : v < most-threads) (n : v ≡ w → ⊥) (h : Fits c (thread ts v) len) where
   strike-met : (touch : Touch) (cause : Cause) → Met touch (thread ts v) (thread (strike ts w touch cause most-threads) v) c len
@@ -85,3 +86,4 @@ module _ (ts : List Thread) (w v : ℕ) (c : Bool) (len : ℕ) (z : length ts �
       unloaded l p = let q : _≡_ {A = ℕ} 0 1 = cc in omega arith
   others-met (Load l) = strike-met (Load l) _
   others-met (Store l) = strike-met (Store l) _
+  others-met (Page p) = strike-met (Page p) _

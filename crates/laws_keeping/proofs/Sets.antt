@@ -24,7 +24,7 @@ use Rattle.event.specs.Event.{operands-right}
 use Rattle.event.specs.declared.Event.{Event}
 use Rattle.event.proofs.Laws.{ld-in, std-in}
 use Rattle.power_common.specs.Common.{cr0-from-state, fails, dooms}
-use Rattle.power_access.specs.Access.{takes, tracked, loads, ld-overflows, std-overflows, ld, logs, meets-own, std}
+use Rattle.power_access.specs.Access.{takes, tracked, loads, ld-overflows, std-overflows, ld, logs, meets-own, std, tlbie}
 use Rattle.power_aborts.specs.Aborts.{tabort, tabort-if}
 use Rattle.power_begins.specs.Begins.{tbegin, commits, tend, tsuspend, tresume, tsr}
 use Rattle.power_reclaims.specs.Reclaims.{tcheck, treclaim, trechkpt}
@@ -81,9 +81,9 @@ module _ (t : Thread) where
   unfolding fails
   fails-sheds cause = handling-sheds cause true _
 
-  dooms-sheds : (cause : Cause) → Shed t (dooms t cause)
+  dooms-sheds : (cause : Cause) (exact : Bool) → Shed t (dooms t cause exact)
   unfolding dooms
-  dooms-sheds cause = recording-sheds cause true _
+  dooms-sheds cause exact = recording-sheds cause exact _
 
 -- ---- the events by state
 
@@ -105,7 +105,7 @@ module _ (t : Thread) where
   unfolding tabort
   tabort-sheds N cause = inl refl
   tabort-sheds T cause = fails-sheds t cause
-  tabort-sheds S cause = dooms-sheds (cr0-from-state t) cause
+  tabort-sheds S cause = dooms-sheds (cr0-from-state t) cause true
 
   tabort-if-sheds : (held : Bool) → Shed t (tabort-if t held)
   unfolding tabort-if
@@ -145,9 +145,15 @@ module _ (t : Thread) where
   taking-sheds (To T tm) pr at = fork (Shed t) (t .control .msr .doomed) (λ e. inl refl) (λ e. inl refl)
   taking-sheds (To S tm) pr at = inl refl
 
-  meets-own-sheds : (i : ℕ) → Shed t (meets-own t i)
+  meets-own-sheds : (met : Bool) (cause : Cause) (exact : Bool) → Shed t (meets-own met t cause exact)
   unfolding meets-own
-  meets-own-sheds i = fork (Shed t) (transaction.touches (t .transaction) (transaction.line i)) (λ e. dooms-sheds t _) (λ e. inl refl)
+  meets-own-sheds met cause exact = fork (Shed t) met (λ e. dooms-sheds t cause exact) (λ e. inl refl)
+
+  tlbie-sheds : (s : State) (p : ℕ) → Sheds (t .transaction) (tlbie s t p .thread .transaction)
+  unfolding tlbie
+  tlbie-sheds N p = inl refl
+  tlbie-sheds T p = fails-sheds t _
+  tlbie-sheds S p = meets-own-sheds _ _ _
 
 -- ---- what an effect leaves: its transaction kept, emptied, or with an access to the line that it touches
 
@@ -169,7 +175,7 @@ module _ (t : Thread) (i : ℕ) (below : transaction.line i < lines) where
   unfolding std logs
   std-leaves N v = shed (inl refl)
   std-leaves T v = fork (Leaves t) (std-overflows t i) (λ o. shed (fails-sheds t _)) (λ o. stored i v below refl refl)
-  std-leaves S v = shed (meets-own-sheds t i)
+  std-leaves S v = shed (meets-own-sheds t _ _ _)
 
 effect-leaves : (e : Event) (t : Thread) (mem : List ℕ) → memory-sized (length mem) ≡ true → operands-right e (length mem) ≡ true → Leaves t (effect e t mem)
 unfolding effect treclaim trechkpt mtspr interrupt host transaction.discard
@@ -191,6 +197,7 @@ effect-leaves e t mem z o =
       disallowed = λ o. shed (disallowed-sheds t (t .control .msr .state));
       interrupt = λ o. shed (inl refl);
       host = λ pr tm o. shed (inl refl);
+      tlbie = λ p o. shed (tlbie-sheds t (t .control .msr .state) p);
       returns = λ e a at m o. shed (taking-sheds t _ _ _);
       registers = λ e g s o. shed (inl refl);
     })

@@ -3,20 +3,21 @@ use mathlib.Core.Path.{_≡_, refl, sym, ap, _∙_}
 use mathlib.Core.Bool.{Bool, true, false, not, cond, _&&_, and-eq-true-iff, or-comm, false≢true}
 use mathlib.Core.Logic.{inl, ⊎-elim}
 use mathlib.Core.List.{List}
-use Prim.Native.Nat.{ℕ, zero, suc, _≤_, _<_}
+use Prim.Native.Nat.{ℕ, zero, suc, _+_, _*_, _≤_, _<_}
 use native.Mathlib.Nat.{not-suc-le-zero, eq-or-lt-of-le, le-of-suc-le-suc}
 use native.Mathlib.Omega.{arith}
 use lib.Dec.{eqb}
 use lib.ListN.{length, set, length-set}
 use lib.Seq.{getD-set-same, getD-set-other}
 use borrow.Author.Tests.{eqb-false, ne-eqb}
-use Rattle.base.proofs.Below.{fork}
+use Rattle.base.specs.Limits.{page-lines}
+use Rattle.base.proofs.Below.{fork, any-false}
 use Rattle.lines.specs.Lines as lineset
 use Rattle.lines.proofs.Laws.{has-empty}
 use Rattle.transaction.specs.Transaction as transaction
 use Rattle.transaction.specs.declared.Cause.{Cause}
 use Rattle.transaction.specs.declared.Touch.{Touch}
-use Rattle.transaction.specs.declared.Touch.the-variants.{Untouched, Load, Store}
+use Rattle.transaction.specs.declared.Touch.the-variants.{Untouched, Load, Store, Page}
 use Rattle.transaction.specs.declared.Transaction.{Transaction}
 use Rattle.thread.specs.Thread.{handling, other-recording, felled}
 use Rattle.thread.specs.declared.State.{State}
@@ -33,12 +34,18 @@ pub zero-in-n : (t : Thread) → zero-thread t ≡ true → zero-state (t .contr
 unfolding zero-thread zero-control zero-msr
 zero-in-n t h = (simp and-eq-true-iff at h) .0 .0 .1 .0 .0 .1 .1
 
+-- the empty set has no line of a page
+pub no-page : (p : ℕ) → lineset.has-page lineset.empty p ≡ false
+unfolding lineset.has-page
+no-page p = any-false _ page-lines (λ i h. has-empty (page-lines * p + i))
+
 -- what is empty is not hit
 unhit : (x : Transaction) (touch : Touch) → x ≡ transaction.empty → hits x touch ≡ false
 unfolding transaction.empty hits
 unhit x Untouched e = refl
 unhit x (Load l) e = rw e (has-empty l)
 unhit x (Store l) e = rw e (simp has-empty)
+unhit x (Page p) e = rw e (simp no-page)
 
 module _ (t : Thread) (len : ℕ) (touch : Touch) (cause : Cause) where
   -- by the state

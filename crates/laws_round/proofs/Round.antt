@@ -13,10 +13,10 @@ use lib.Seq.{take-at, drop-at, take-all, length-sets}
 use borrow.Author.Tests.{leb-true, ltb-false, le-ltb, eqb-true, eq-eqb, ne-eqb}
 use Rattle.base.specs.Below.{bit}
 use Rattle.base.proofs.Below.{and-left, and-right, and-intro, digit-bit}
-use Rattle.event.specs.Rows.{rows, kind-right, row, used}
+use Rattle.event.specs.Rows.{kind-right, row, used, spans}
 use Rattle.event.specs.Event.{fields, fields-of, event-of}
 use Rattle.event.specs.declared.Event.{Event}
-use Rattle.event.specs.declared.Event.the-variants.{Tbegin, Tend, Tabort, Tabortwc, Tabortdc, Tsr, Tcheck, Treclaim, Trechkpt, Mtspr, Mfspr, Ld, Std, Addi, Disallowed, Interrupt, Host, Rfid, Mtmsrd}
+use Rattle.event.specs.declared.Event.the-variants.{Tbegin, Tend, Tabort, Tabortwc, Tabortdc, Tsr, Tcheck, Treclaim, Trechkpt, Mtspr, Mfspr, Ld, Std, Addi, Disallowed, Interrupt, Host, Rfid, Mtmsrd, Tlbie}
 use Rattle.event.specs.declared.Fields.{Fields}
 use Rattle.event.specs.declared.rows.Row.{Row}
 use Rattle.tape.specs.Tape.{record-size, first-byte, byte, two, four, fields-at, fixed-zero, bytes, unused-clear, judged, of-kind, read, number, values, write}
@@ -97,6 +97,7 @@ written w (Mtmsrd false false true true) = refl
 written w (Mtmsrd false false true false) = refl
 written w (Mtmsrd false false false true) = refl
 written w (Mtmsrd false false false false) = refl
+written w (Tlbie p) = refl
 
 pub event-kept : EventKept
 event-kept w e =
@@ -128,14 +129,27 @@ flags-kept most n =
 -- what an event keeps of its fields: those that its row uses, and its flags
 abbrev kept : Row → ℕ → (w x ra rb n i si : ℕ) → Fields
 kept r k w x ra rb n i si =
-    fields k w (cond (used (r .x)) x 0) (cond (used (r .ra)) ra 0) (cond (used (r .rb)) rb 0) (flags-kept (r .flags) n) (cond (r .index) i 0) (cond (r .si) si 0)
+    fields k w (cond (used (r .x)) x 0) (cond (used (r .ra)) ra 0) (cond (used (r .rb)) rb 0) (flags-kept (r .flags) n) (cond (spans (r .index)) i 0) (cond (r .si) si 0)
 
 abbrev Keeps : ℕ → Type 0
 Keeps k = (λ w x ra rb n i si. fields-of w (event-of (fields k w x ra rb n i si))) ≡ kept (row k) k
 
-keeps : Each Keeps (length rows)
+keeps : Each Keeps 19
 unfolding row event-of fields-of
 keeps = (((((((((((((((((((tt, refl), refl), refl), refl), refl), refl), refl), refl), refl), refl), refl), refl), refl), refl), refl), refl), refl), refl), refl)
+
+keeps-page : Keeps 26
+unfolding row event-of fields-of
+keeps-page = refl
+
+-- so each kind keeps them
+kind-keeps : (k : ℕ) → kind-right k ≡ true → Keeps k
+unfolding kind-right
+kind-keeps k h = go (leb 1 k && leb k 19) refl h
+  where
+    go : (b : Bool) → (leb 1 k && leb k 19) ≡ b → (b || eqb k 26) ≡ true → Keeps k
+    go true e h = each-at Keeps 19 k keeps (leb-true 1 k (and-left (leb 1 k) _ e)) (leb-true k 19 (and-right (leb 1 k) _ e))
+    go false e h = subst Keeps (sym (eqb-true k 26 h)) keeps-page
 
 -- what is 0 unless it is used
 used-kept : (u : Bool) (v : ℕ) → (u || eqb v 0) ≡ true → cond u v 0 ≡ v
@@ -180,14 +194,14 @@ six a b c d e g p =
     (and-left a b p2, and-right a b p2, and-right (a && b) c p3, and-right (a && b && c) d p4, and-right (a && b && c && d) e p5, and-right (a && b && c && d && e) g p)
 
 pub fields-kept : FieldsKept
-unfolding kind-right unused-clear
+unfolding unused-clear
 fields-kept f right c =
     let k = f .kind in
     let r = row k in
     let p =
     six (used (r .x) || eqb (f .x) 0) (used (r .ra) || eqb (f .ra) 0) (used (r .rb) || eqb (f .rb) 0) (leb (f .flags) (r .flags))
-    (r .index || eqb (f .index) 0) (r .si || eqb (f .si) 0) c in
-    let same = each-at Keeps (length rows) k keeps (leb-true 1 k (and-left (leb 1 k) _ right)) (leb-true k _ (and-right (leb 1 k) _ right)) in
+    (spans (r .index) || eqb (f .index) 0) (r .si || eqb (f .si) 0) c in
+    let same = kind-keeps k right in
     (λ j. same j (f .thread) (f .x) (f .ra) (f .rb) (f .flags) (f .index) (f .si))
     ∙ (λ j. record {
       kind = k;
@@ -196,7 +210,7 @@ fields-kept f right c =
       ra = used-kept (used (r .ra)) (f .ra) (p .1) j;
       rb = used-kept (used (r .rb)) (f .rb) (p .2) j;
       flags = flags-back (r .flags) (f .flags) (leb-true _ _ (p .3)) j;
-      index = used-kept (r .index) (f .index) (p .4) j;
+      index = used-kept (spans (r .index)) (f .index) (p .4) j;
       si = used-kept (r .si) (f .si) (p .5) j;
     })
 

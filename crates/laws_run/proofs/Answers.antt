@@ -6,9 +6,8 @@ use Prim.Native.Nat.{ℕ}
 use lib.Dec.{leb}
 use Rattle.base.specs.Limits.{most-levels}
 use Rattle.base.proofs.Below.{fork}
-use Rattle.transaction.specs.Transaction as transaction
 use Rattle.transaction.specs.declared.Cause.{Cause}
-use Rattle.transaction.specs.declared.Cause.the-variants.{Nesting, Footprint, OwnStore}
+use Rattle.transaction.specs.declared.Cause.the-variants.{Nesting, Footprint}
 use Rattle.thread.specs.Texasr.{tl}
 use Rattle.event.specs.declared.Event.{Event}
 use Rattle.thread.specs.Thread.{failed}
@@ -18,7 +17,7 @@ use Rattle.thread.specs.declared.Thread.{Thread}
 use Rattle.thread.specs.declared.Effect.{Effect}
 use Rattle.power_common.specs.Common.{cr0-from-state, gpr, fails, dooms, abort-cause}
 use Rattle.power_aborts.specs.Compare.{holds-in-words, holds-in-doublewords}
-use Rattle.power_access.specs.Access.{ld-overflows, std-overflows, ld, logs, meets-own, std}
+use Rattle.power_access.specs.Access.{ld-overflows, std-overflows, ld, logs, meets-own, std, tlbie}
 use Rattle.power_aborts.specs.Aborts.{tabort, tabort-if}
 use Rattle.power_begins.specs.Begins.{tbegin, commits, tend, tsuspend, tresume, tsr}
 use Rattle.power_reclaims.specs.Reclaims.{tcheck, treclaim, trechkpt}
@@ -42,9 +41,9 @@ fails-done : (t : Thread) (cause : Cause) → Done (fails t cause)
 unfolding fails
 fails-done t cause = refl
 
-dooms-done : (t : Thread) (cause : Cause) → Done (dooms t cause)
+dooms-done : (t : Thread) (cause : Cause) (exact : Bool) → Done (dooms t cause exact)
 unfolding dooms
-dooms-done t cause = fork (λ (n : ℕ). goes-on n ≡ true) (failed (t .control)) (λ e. refl) (λ e. refl)
+dooms-done t cause exact = fork (λ (n : ℕ). goes-on n ≡ true) (failed (t .control)) (λ e. refl) (λ e. refl)
 
 tbegin-done : (s : State) (t : Thread) (r : Bool) → Done (tbegin s t r)
 unfolding tbegin
@@ -63,7 +62,7 @@ tabort-done : (s : State) (t : Thread) (cause : Cause) → Done (tabort s t caus
 unfolding tabort
 tabort-done N t cause = refl
 tabort-done T t cause = fails-done t cause
-tabort-done S t cause = dooms-done (cr0-from-state t) cause
+tabort-done S t cause = dooms-done (cr0-from-state t) cause true
 
 tabort-if-done : (t : Thread) (held : Bool) → Done (tabort-if t held)
 unfolding tabort-if
@@ -88,11 +87,21 @@ ld-done T t rt i mem =
     fork Does (ld-overflows t i) (λ e. fails-done t Footprint) (λ e. refl)
 ld-done S t rt i mem = refl
 
+meets-own-done : (met : Bool) (t : Thread) (cause : Cause) (exact : Bool) → Done (meets-own met t cause exact)
+unfolding meets-own
+meets-own-done met t cause exact = fork Done met (λ e. dooms-done t cause exact) (λ e. refl)
+
 std-done : (s : State) (t : Thread) (v i : ℕ) → Does (std s t v i)
-unfolding std logs meets-own
+unfolding std logs
 std-done N t v i = refl
 std-done T t v i = fork Does (std-overflows t i) (λ e. fails-done t Footprint) (λ e. refl)
-std-done S t v i = fork Done (transaction.touches (t .transaction) (transaction.line i)) (λ e. dooms-done t OwnStore) (λ e. refl)
+std-done S t v i = meets-own-done _ t _ _
+
+tlbie-done : (s : State) (t : Thread) (p : ℕ) → Does (tlbie s t p)
+unfolding tlbie
+tlbie-done N t p = refl
+tlbie-done T t p = fails-done t _
+tlbie-done S t p = meets-own-done _ t _ _
 
 disallowed-done : (s : State) (t : Thread) → Done (disallowed s t)
 unfolding disallowed
@@ -128,6 +137,7 @@ effect-done e t mem =
       disallowed = disallowed-done (t .control .msr .state) t;
       interrupt = refl;
       host = λ pr tm. refl;
+      tlbie = λ p. tlbie-done (t .control .msr .state) t p;
       returns = λ e a at m. taking-done _ t _ _;
       registers = λ e g s. refl;
     })

@@ -33,7 +33,7 @@ use Rattle.event.specs.Event.{trechkpt-kind, mtspr-kind, kind, tm-instruction}
 use Rattle.event.specs.declared.Event.{Event}
 use Rattle.event.specs.declared.Event.the-variants.{Trechkpt, Mtspr}
 use Rattle.power_common.specs.Common.{did, doing, quiet, passes, gpr, fails, abort-cause}
-use Rattle.power_access.specs.Access.{tracked, ld-overflows, takes, loads, ld, stores, logs, std}
+use Rattle.power_access.specs.Access.{tracked, ld-overflows, takes, loads, ld, stores, logs, std, tlbie}
 use Rattle.power_aborts.specs.Aborts.{tabort}
 use Rattle.power_begins.specs.Begins.{tbegin, commits, tend, tresume, tsr}
 use Rattle.power_reclaims.specs.Reclaims.{tcheck, treclaim}
@@ -189,6 +189,11 @@ module _ (t : Thread) (r : Registers) (f : ℕ) (es : List Entry) (p : t .contro
   unfolding disallowed
   disallowed-even = falls _
 
+  -- tlbie is one of those
+  tlbie-even : (n : ℕ) → EvenEffect (tlbie T t n) (tlbie T (beside t r f es) n)
+  unfolding tlbie
+  tlbie-even n = falls _
+
   -- rfid and mtmsrd fail the transaction, whatever they ask for
   returns-even : (a : Asked) (at : ℕ) → let x = table T (a .t) (a .s) (t .control .msr .tm) (a .tm) in
       Evenly (taking x t (a .pr) at) (taking x (beside t r f es) (a .pr) at)
@@ -221,6 +226,7 @@ module _ (t : Thread) (r : Registers) (f : ℕ) (es : List Entry) (p : t .contro
         disallowed = λ n o. here (λ s. Evenly (disallowed s t) (disallowed s (beside t r f es))) disallowed-even;
         interrupt = λ n o. absurd (true≢false n);
         host = λ pr tm n o. goes p q;
+        tlbie = λ k n o. here (λ s. EvenEffect (tlbie s t k) (tlbie s (beside t r f es) k)) (tlbie-even k);
         returns = λ e a at m n o. here (λ s. let g = a (t .control) in Evenly (taking (table s (g .t) (g .s) (t .control .msr .tm) (g .tm)) t (g .pr) (at (t .control))) (taking (table s (g .t) (g .s) (t .control .msr .tm) (g .tm)) (beside t r f es) (g .pr) (at (t .control)))) (returns-even (a (t .control)) (at (t .control)));
         registers = λ e g s n o. goes p q;
       })

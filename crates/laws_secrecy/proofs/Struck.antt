@@ -11,7 +11,7 @@ use Rattle.base.specs.Limits.{most-threads}
 use Rattle.transaction.specs.declared.Cause.{Cause}
 use Rattle.transaction.specs.declared.Entry.{Entry}
 use Rattle.transaction.specs.declared.Touch.{Touch}
-use Rattle.transaction.specs.declared.Touch.the-variants.{Untouched, Load, Store}
+use Rattle.transaction.specs.declared.Touch.the-variants.{Untouched, Load, Store, Page}
 use Rattle.transaction.specs.declared.Transaction.{Transaction}
 use Rattle.thread.specs.Thread.{failed, felled}
 use Rattle.thread.specs.declared.State.{State}
@@ -29,6 +29,7 @@ unfolding hits
 hits-same x es Untouched = refl
 hits-same x es (Load l) = refl
 hits-same x es (Store l) = refl
+hits-same x es (Page p) = refl
 
 -- another thread's access strikes both of two threads alike, which makes them equal, or neither
 struck-alike : {t u : Thread} → AlikeThread t u → (touch : Touch) (cause : Cause) → failed (t .control) ≡ false
@@ -96,3 +97,4 @@ module _ (w : ℕ) (ts us : List Thread) (near : Near w ts us) (live : failed (t
     others-near Untouched = near
     others-near (Load l) = access-near (Load l)
     others-near (Store l) = access-near (Store l)
+    others-near (Page p) = strike-near (Page p) _ most-threads

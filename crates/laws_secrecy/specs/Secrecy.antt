@@ -10,7 +10,7 @@ use Rattle.transaction.specs.Transaction.{entry}
 use Rattle.thread.specs.declared.State.the-variants.{T}
 use Rattle.thread.specs.declared.Thread.{Thread}
 use Rattle.event.specs.declared.Event.{Event}
-use Rattle.event.specs.declared.Event.the-variants.{Tbegin, Tend, Tabort, Tabortwc, Tabortdc, Tsr, Tcheck, Treclaim, Trechkpt, Mtspr, Mfspr, Ld, Std, Addi, Disallowed, Interrupt, Host, Rfid, Mtmsrd}
+use Rattle.event.specs.declared.Event.the-variants.{Tbegin, Tend, Tabort, Tabortwc, Tabortdc, Tsr, Tcheck, Treclaim, Trechkpt, Mtspr, Mfspr, Ld, Std, Addi, Disallowed, Interrupt, Host, Rfid, Mtmsrd, Tlbie}
 use Rattle.power_begins.specs.Begins.{commits}
 use Rattle.machine.specs.Machine.{thread}
 use Rattle.machine.specs.Valid.{valid}
@@ -56,6 +56,7 @@ tells Interrupt t = true
 tells (Host pr tm) t = false
 tells Rfid t = false
 tells (Mtmsrd b29 b30 tm pr) t = false
+tells (Tlbie p) t = false
 
 -- the transaction of thread w is still open: it has not failed and was not reclaimed
 abbrev pub open-at : ℕ → Outcome → Bool

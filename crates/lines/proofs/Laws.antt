@@ -1,9 +1,9 @@
 -- Laws of the line sets: places of words, what a set holds after a line was added, footprints and meetings.
 use mathlib.Core.Path.{_≡_, refl, sym, ap, subst, _∙_}
-use mathlib.Core.Bool.{Bool, true, false, _&&_, _||_, not, Bool·beq, and-comm, or-comm, or-false, or-true, and-true, true≢false}
+use mathlib.Core.Bool.{Bool, true, false, _&&_, _||_, not, cond, Bool·beq, and-comm, or-comm, or-false, or-true, and-true, and-false, true≢false}
 use mathlib.Core.List.{List}
 use Prim.Native.Nat.{ℕ, zero, suc, _+_, _-_, _*_, _/_, _%_, _^_, _≤_, _<_, min, max}
-use native.Mathlib.Nat.{mod-lt, zero-div, div-one, lt-of-le-of-lt}
+use native.Mathlib.Nat.{mod-lt, zero-add, zero-div, div-one, lt-of-le-of-lt}
 use native.Mathlib.Decide.{ℕ-discrete, decLt}
 use native.Mathlib.Omega.{arith}
 use native.Mathlib.Numerals.{one-add}
@@ -14,12 +14,12 @@ use lib.Count.{ones, ones-step}
 use lib.Dec.{eqb, ltb, eqb·suc-zero, eqb·zero-suc, eqb·suc-suc, lit<}
 use lib.ListN.{getD, length, length-set, replicate}
 use lib.Seq.{getD-set-same, getD-set-other, set-out}
-use borrow.Author.Tests.{eq-eqb, ne-eqb, eqb-true, lt-ltb, le-ltb}
-use Rattle.base.specs.Limits.{lines, words}
+use borrow.Author.Tests.{eq-eqb, ne-eqb, eqb-true, eqb-false, not-true, lt-ltb, le-ltb}
+use Rattle.base.specs.Limits.{lines, words, page-lines}
 use Rattle.base.specs.Below.{bit, all-below, any-below, count-below}
 use Rattle.base.proofs.Below.{all-at, all-from, all-cong, all-add, any-at, any-false, any-false-at, any-witness, any-not, any-cong, any-add, count-low, count-cong, count-le, count-add, count-one, and-intro, bit-lt, bit-test, digit-bit}
-use Rattle.lines.specs.Lines.{place, word, empty, has, with, meets, footprint}
-use Rattle.lines.specs.Inner.{shared, alike, joined, clear-from}
+use Rattle.lines.specs.Lines.{place, word, empty, has, has-page, with, meets, footprint}
+use Rattle.lines.specs.Inner.{shared, alike, joined, clear-from, line-mask, page-mask}
 use Rattle.lines.specs.declared.LineSet.{LineSet}
 
 -- ---- the places of a word
@@ -163,6 +163,34 @@ unfolding shared
 shared-and a b h =
     any-cong _ _ 64 (λ i l. sym (and-place a b i)) ∙ any-place 64 (bitAnd a b) (lt-of-le-of-lt (and-le-l a b) h)
 
+-- a word shares a line's mask if the line's place is set
+pub shared-line : (s : LineSet) (l : ℕ) → shared (word s (l / 64)) (line-mask l) ≡ has s l
+unfolding shared has
+shared-line s l = go (place w k) refl
+  where
+    w : ℕ
+    w = word s (l / 64)
+
+    k : ℕ
+    k = l % 64
+
+    f : ℕ → Bool
+    f i = place w i && place (2 ^ k) i
+
+    at : f k ≡ place w k
+    at = ap (_&&_ (place w k)) (power-place k k ∙ eq-eqb k k refl) ∙ and-true (place w k)
+
+    other : (i : ℕ) → (i ≡ k → ⊥) → f i ≡ false
+    other i n = ap (_&&_ (place w i)) (power-place k i ∙ ne-eqb i k n) ∙ and-false (place w i)
+
+    go : (b : Bool) → place w k ≡ b → any-below f 64 ≡ b
+    go true e = any-at f 64 k (at ∙ e) (mod-lt l (lit< tt))
+    go false e = any-false f 64 (λ i h. pick i (ℕ-discrete i k))
+      where
+        pick : (i : ℕ) → Dec (i ≡ k) → f i ≡ false
+        pick i (yes q) = ap f q ∙ at ∙ e
+        pick i (no n) = other i n
+
 -- two words are equal if the same places are set
 pub alike-eqb : (a b : ℕ) → a < 2 ^ 64 → b < 2 ^ 64 → alike a b ≡ eqb a b
 unfolding alike
@@ -206,6 +234,69 @@ at-word s k i h =
     let q : (64 * k + i) / 64 ≡ k = omega arith in
     let r : (64 * k + i) % 64 ≡ i = omega arith in
     λ j. place (word s (q j)) (r j)
+
+-- a mask of half a word has all places of that half set, and no other
+module _ (m : ℕ) (a b : Bool)
+    (lower : (i : ℕ) → i < 32 → place m i ≡ a)
+    (upper : (i : ℕ) → i < 32 → place m (32 + i) ≡ b) where
+  halves : (w : ℕ) → shared w m ≡ (any-below (λ i. place w (32 + i) && b) 32 || any-below (λ i. place w i && a) 32)
+  unfolding shared
+  halves w =
+      any-add (λ i. place w i && place m i) 32 32
+      ∙ (λ j. any-cong (λ i. place w (32 + i) && place m (32 + i)) (λ i. place w (32 + i) && b) 32 (λ i h. ap (_&&_ (place w (32 + i))) (upper i h)) j
+      || any-cong (λ i. place w i && place m i) (λ i. place w i && a) 32 (λ i h. ap (_&&_ (place w i)) (lower i h)) j)
+
+low-set : (i : ℕ) → i < 32 → place 0x00000000FFFFFFFF i ≡ true
+unfolding all-below place
+low-set i h = all-at (place 0x00000000FFFFFFFF) 32 i refl h
+
+low-clear : (i : ℕ) → i < 32 → place 0x00000000FFFFFFFF (32 + i) ≡ false
+unfolding all-below place
+low-clear i h = not-true _ (all-at (λ i. not (place 0x00000000FFFFFFFF (32 + i))) 32 i refl h)
+
+high-set : (i : ℕ) → i < 32 → place 0xFFFFFFFF00000000 (32 + i) ≡ true
+unfolding all-below place
+high-set i h = all-at (λ i. place 0xFFFFFFFF00000000 (32 + i)) 32 i refl h
+
+high-clear : (i : ℕ) → i < 32 → place 0xFFFFFFFF00000000 i ≡ false
+unfolding all-below place
+high-clear i h = not-true _ (all-at (λ i. not (place 0xFFFFFFFF00000000 i)) 32 i refl h)
+
+low-half : (w : ℕ) → shared w 0x00000000FFFFFFFF ≡ any-below (λ i. place w (0 + i)) 32
+low-half w =
+    halves 0x00000000FFFFFFFF true false low-set low-clear w
+    ∙ (λ j. any-false (λ i. place w (32 + i) && false) 32 (λ i h. and-false (place w (32 + i))) j
+    || any-cong (λ i. place w i && true) (λ i. place w (0 + i)) 32 (λ i h. and-true (place w i) ∙ ap (place w) (sym (zero-add i))) j)
+
+high-half : (w : ℕ) → shared w 0xFFFFFFFF00000000 ≡ any-below (λ i. place w (32 + i)) 32
+high-half w =
+    halves 0xFFFFFFFF00000000 false true high-clear high-set w
+    ∙ (λ j. any-cong (λ i. place w (32 + i) && true) (λ i. place w (32 + i)) 32 (λ i h. and-true (place w (32 + i))) j
+    || any-false (λ i. place w i && false) 32 (λ i h. and-false (place w i)) j)
+    ∙ or-false (any-below (λ i. place w (32 + i)) 32)
+
+one : (n : ℕ) → n < 2 → (n ≡ 0 → ⊥) → n ≡ 1
+one zero h n = absurd (n refl)
+one (suc zero) h n = refl
+one (suc (suc k)) h n = absurd (omega arith)
+
+-- a page is a half of word p / 2
+page-at : (s : LineSet) (p h : ℕ) → p % 2 ≡ h → h < 2 → any-below (λ i. place (word s (p / 2)) (32 * h + i)) 32 ≡ has-page s p
+unfolding has-page
+page-at s p h e l =
+    any-cong (λ i. place (word s (p / 2)) (32 * h + i)) (λ i. has s (page-lines * p + i)) 32
+    (λ i k. sym (at-word s (p / 2) (32 * h + i) (omega arith)) ∙ ap (has s) (let q : 64 * (p / 2) + (32 * h + i) ≡ page-lines * p + i = omega arith in q))
+
+-- a word shares a page's mask if the set that it is of holds a line of the page
+pub shared-page : (s : LineSet) (p : ℕ) → shared (word s (p / 2)) (page-mask p) ≡ has-page s p
+shared-page s p = go (eqb (p % 2) 0) refl
+  where
+    go : (b : Bool) → eqb (p % 2) 0 ≡ b → shared (word s (p / 2)) (cond b 0x00000000FFFFFFFF 0xFFFFFFFF00000000) ≡ has-page s p
+    go true e = low-half (word s (p / 2)) ∙ page-at s p 0 (eqb-true (p % 2) 0 e) (omega arith)
+    go false e = high-half (word s (p / 2)) ∙ page-at s p 1 (odd (mod-lt p (lit< tt))) (omega arith)
+      where
+        odd : p % 2 < 2 → p % 2 ≡ 1
+        odd h = one (p % 2) h (eqb-false (p % 2) 0 e)
 
 -- the lines of the first k words, and of one word more
 pub footprint-more : (r w : LineSet) (k : ℕ) → count-below (either r w) (64 * (k + 1)) ≡ count-below (either r w) (64 * k) + joined (word r k) (word w k)

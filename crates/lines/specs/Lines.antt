@@ -1,10 +1,10 @@
--- Sets of lines: one bit for each of 256 lines, in four words (rules M9 and M10).
-use Prim.Native.Nat.{ℕ, _/_, _%_, _^_}
+-- Sets of lines: one bit for each of 256 lines, in four words (rules M9, M10 and M16).
+use Prim.Native.Nat.{ℕ, _+_, _*_, _/_, _%_, _^_}
 use mathlib.Core.Bool.{Bool, _&&_, _||_}
 use lib.ListN.{getD, set, replicate}
 use lib.Bits.{bitOr}
 use lib.Dec.{eqb}
-use Rattle.base.specs.Limits.{lines, words}
+use Rattle.base.specs.Limits.{lines, words, page-lines}
 use Rattle.base.specs.Below.{any-below, count-below}
 use Rattle.lines.specs.declared.LineSet.{LineSet}
 
@@ -21,6 +21,10 @@ empty = record { words = replicate words 0 }
 -- the set holds line l
 unfoldable pub has : LineSet → ℕ → Bool
 has s l = place (word s (l / 64)) (l % 64)
+
+-- the set holds a line of page p (rule M16)
+unfoldable pub has-page : LineSet → ℕ → Bool
+has-page s p = any-below (λ i. has s (page-lines * p + i)) page-lines
 
 -- the set with line l too
 unfoldable pub with : LineSet → ℕ → LineSet

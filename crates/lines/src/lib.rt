@@ -1,8 +1,8 @@
-// Sets of lines: one bit for each of 256 lines, in four words (rules M9 and M10).
+// Sets of lines: one bit for each of 256 lines, in four words (rules M9, M10 and M16).
 ghost use mathlib.Core.Path.{_≡_};
 ghost use Prim.Native.Nat.{_-_, _<_};
 ghost use Rattle.base.specs.Limits.{lines};
-ghost use Rattle.lines.specs.Inner.{same, ends, clear-from, joined, shared, alike};
+ghost use Rattle.lines.specs.Inner.{same, ends, clear-from, joined, shared, alike, line-mask, page-mask};
 ghost use Rattle.lines.specs.Lines.{empty, with, meets, footprint};
 use base::WORDS;
 
@@ -28,8 +28,25 @@ pub fn with(s: LineSet, line: usize) -> LineSet
     t
 }
 
+// A line's place in its word.
+pub fn line_mask(line: usize) -> u64
+    ensures { λ r. ⌜ r ≡ line-mask line ⌝ }
+{
+    1 << (line % 64)
+}
+
+// A page's half of its word, which is word page / 2.
+pub fn page_mask(page: usize) -> u64
+    ensures { λ r. ⌜ r ≡ page-mask page ⌝ }
+{
+    if page % 2 == 0 {
+        return 0x0000_0000_FFFF_FFFF;
+    }
+    0xFFFF_FFFF_0000_0000
+}
+
 // Two words have a place that is set in both.
-fn shared(a: u64, b: u64) -> bool
+pub fn shared(a: u64, b: u64) -> bool
     ensures { λ r. ⌜ r ≡ shared a b ⌝ }
 {
     a & b != 0

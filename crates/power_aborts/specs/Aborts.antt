@@ -1,6 +1,6 @@
 -- tabort., tabortwc. and tabortdc. (rules E3 to E5). Clauses by state first.
 use Prim.Native.Nat.{ℕ}
-use mathlib.Core.Bool.{Bool, cond}
+use mathlib.Core.Bool.{Bool, true, cond}
 use Rattle.transaction.specs.declared.Cause.{Cause}
 use Rattle.transaction.specs.declared.Cause.the-variants.{Abort}
 use Rattle.thread.specs.declared.State.{State}
@@ -14,7 +14,7 @@ use Rattle.power_aborts.specs.Compare.{holds-in-words, holds-in-doublewo
 unfoldable pub tabort : State → Thread → Cause → Did
 tabort N t cause = cr0-only t
 tabort T t cause = fails t cause
-tabort S t cause = dooms (cr0-from-state t) cause
+tabort S t cause = dooms (cr0-from-state t) cause true
 
 -- 4, 5. tabortwc., tabortdc.: the cause of RA = 0, where one of the comparisons asked for is true
 unfoldable pub tabort-if : Thread → Bool → Did

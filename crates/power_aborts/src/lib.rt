@@ -37,7 +37,7 @@ fn abort(
             answer::DONE
         }
         State::T => place::fails(&mut *gpr, &mut *cr, kgpr, kcr, &mut *words, cause),
-        State::S => place::dooms(&mut *words, place::told(h), cause),
+        State::S => place::dooms(&mut *words, place::told(h), cause, true),
     }
 }
 

@@ -1,12 +1,13 @@
--- Loads and stores (rules A1, A2 and A4; E12 and E13). Rule A3 is in `conflict/specs/Conflict`.
+-- Loads and stores (rules A1, A2 and A4; E12 and E13), and tlbie (rule E26). Rules A3 and A6 are in `conflict/specs/Conflict`.
 -- Clauses by state first.
 use Prim.Native.Nat.{ℕ}
-use mathlib.Core.Bool.{Bool, cond, _&&_}
+use mathlib.Core.Bool.{Bool, true, false, cond, _&&_}
 use mathlib.Core.List.{List}
 use lib.Dec.{eqb}
 use Rattle.transaction.specs.Transaction as transaction
-use Rattle.transaction.specs.declared.Cause.the-variants.{Footprint, OwnStore}
-use Rattle.transaction.specs.declared.Touch.the-variants.{Load, Store}
+use Rattle.transaction.specs.declared.Cause.the-variants.{Disallowed, Footprint, OwnStore, Translation}
+use Rattle.transaction.specs.declared.Cause.{Cause}
+use Rattle.transaction.specs.declared.Touch.the-variants.{Load, Store, Page}
 use Rattle.transaction.specs.declared.Write.{Write}
 use Rattle.transaction.specs.declared.Write.the-variants.{Unwritten, Doubleword}
 use Rattle.thread.specs.Texasr.{rot}
@@ -53,10 +54,21 @@ logs t v i =
     cond (std-overflows t i) (quiet (fails t Footprint))
     (stores (passes (with-transaction t (transaction.store (t .transaction) i v))) i Unwritten)
 
-unfoldable pub meets-own : Thread → ℕ → Did
-meets-own t i = cond (transaction.touches (t .transaction) (transaction.line i)) (dooms t OwnStore) (passes t)
+-- in S an event that meets the thread's own sets fails its transaction, and the event is done all the same
+unfoldable pub meets-own : Bool → Thread → Cause → Bool → Did
+meets-own met t cause exact = cond met (dooms t cause exact) (passes t)
 
 unfoldable pub std : State → Thread → ℕ → ℕ → Effect
 std N t v i = stores (passes t) i (Doubleword i v)
 std T t v i = logs t v i
-std S t v i = stores (meets-own t i) i (Doubleword i v)
+std S t v i = stores (meets-own (transaction.touches (t .transaction) (transaction.line i)) t OwnStore true) i (Doubleword i v)
+
+-- 26. tlbie (page): in T a disallowed instruction; else a touch of the page, in S by the thread's own sets too. That one is recorded for the
+-- instruction's own address, and not as exact
+abbrev pub invalidates : Did → ℕ → Effect
+invalidates d p = doing d (Page p) Unwritten
+
+unfoldable pub tlbie : State → Thread → ℕ → Effect
+tlbie N t p = invalidates (passes t) p
+tlbie T t p = quiet (fails t Disallowed)
+tlbie S t p = invalidates (meets-own (transaction.touches-page (t .transaction) p) t Translation false) p

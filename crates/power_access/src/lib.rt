@@ -1,4 +1,6 @@
-// ld and std (rules A1, A2 and A4), each on its thread's rows and on memory.
+// ld and std (rules A1, A2 and A4), each on its thread's rows and on memory. tlbie: `page`.
+pub mod page;
+
 ghost use mathlib.Core.Path.{_≡_};
 ghost use mathlib.Core.List.{List};
 ghost use Prim.Native.Nat.{ℕ, _<_, _≤_};
@@ -162,14 +164,13 @@ fn touches(words: &[u64; HEAD], line: usize) -> bool
     rows::has_line(words, 14, line)
 }
 
-// std in S: a line of the thread's own sets fails its transaction.
-fn meets_own(words: &mut [u64; HEAD], index: u32) -> u8
-    requires { ⌜ line index < lines ⌝ }
-    ensures { λ a. ⌜ ((gpr cr kgpr kcr ix vl : List ℕ) → did a (standing gpr cr kgpr kcr (now (words .exit)) ix vl) ≡ meets-own (standing gpr cr kgpr kcr (now (words .entry)) ix vl) index) ⌝ }
+// In S: an event that meets the thread's own sets fails its transaction.
+pub fn meets_own(words: &mut [u64; HEAD], met: bool, cause: Cause, exact: bool) -> u8
+    ensures { λ a. ⌜ ((gpr cr kgpr kcr ix vl : List ℕ) → did a (standing gpr cr kgpr kcr (now (words .exit)) ix vl) ≡ meets-own met (standing gpr cr kgpr kcr (now (words .entry)) ix vl) cause exact) ⌝ }
 {
-    if touches(&*words, index as usize / LINE) {
+    if met {
         let h = rows::read_head(&*words);
-        return place::dooms(&mut *words, h, Cause::OwnStore);
+        return place::dooms(&mut *words, h, cause, exact);
     }
     place::passes(&mut *words);
     answer::DONE
@@ -216,8 +217,9 @@ pub fn std(
         ),
         State::S => {
             mem[index as usize] = value;
+            let met = touches(&*words, index as usize / LINE);
             Went {
-                answer: meets_own(&mut *words, index),
+                answer: meets_own(&mut *words, met, Cause::OwnStore, true),
                 touch: Touch::Store(index as usize / LINE),
             }
         }

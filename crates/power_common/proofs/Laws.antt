@@ -13,7 +13,7 @@ use Rattle.thread.specs.declared.Thread.{Thread}
 use Rattle.rows.specs.Rows.{thread-with}
 use Rattle.rows.specs.declared.Head.{Head}
 use Rattle.rows.proofs.Laws.{log-none}
-use Rattle.power_common.specs.Common.{did, advance, own-recording, dooms}
+use Rattle.power_common.specs.Common.{did, advance, dooms}
 use Rattle.power_common.specs.Inner.{advanced, recorded, handled}
 
 module _ (h : Head) (gpr cr kgpr kcr ix vl : List ℕ) where
@@ -41,9 +41,9 @@ module _ (h : Head) (gpr cr kgpr kcr ix vl : List ℕ) where
   unfolding handling
   handled-is = refl
 
-  pub dooms-is : (cause : Cause) (b : Bool) → failed (h .control) ≡ b
-      → did (cond b answer.done answer.recorded) (thread-with (advanced (recorded h cause true)) gpr cr kgpr kcr ix vl) ≡ dooms (thread-with h gpr cr kgpr kcr ix vl) cause
+  pub dooms-is : (cause : Cause) (exact b : Bool) → failed (h .control) ≡ b
+      → did (cond b answer.done answer.recorded) (thread-with (advanced (recorded h cause exact)) gpr cr kgpr kcr ix vl) ≡ dooms (thread-with h gpr cr kgpr kcr ix vl) cause exact
   unfolding dooms
-  dooms-is cause b p =
-      ap (λ (t : Thread). did (cond b answer.done answer.recorded) (advance t)) (recorded-is cause true)
-      ∙ ap (λ (f : Bool). did (cond f answer.done answer.recorded) (advance (own-recording (thread-with h gpr cr kgpr kcr ix vl) cause))) (sym p)
+  dooms-is cause exact b p =
+      ap (λ (t : Thread). did (cond b answer.done answer.recorded) (advance t)) (recorded-is cause exact)
+      ∙ ap (λ (f : Bool). did (cond f answer.done answer.recorded) (advance (recording (thread-with h gpr cr kgpr kcr ix vl) cause exact (h .control .nia)))) (sym p)

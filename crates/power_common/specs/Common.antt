@@ -82,6 +82,7 @@ own-recording t cause = recording t cause true (t .control .nia)
 unfoldable pub fails : Thread → Cause → Did
 fails t cause = did answer.handled (handling (own-recording t cause))
 
--- the thread's own failure in S: recorded, and handled at tresume; 21 only if this event recorded it
-unfoldable pub dooms : Thread → Cause → Did
-dooms t cause = did (cond (failed (t .control)) answer.done answer.recorded) (advance (own-recording t cause))
+-- the thread's own failure in S: recorded for its own instruction, exact or not (rule F4), and handled at tresume; 21 only if this event
+-- recorded it
+unfoldable pub dooms : Thread → Cause → Bool → Did
+dooms t cause exact = did (cond (failed (t .control)) answer.done answer.recorded) (advance (recording t cause exact (t .control .nia)))

@@ -171,11 +171,11 @@ pub fn fails(
 }
 
 // The own failure in S of a thread with this head: 21 only if this event recorded it.
-pub fn dooms(words: &mut [u64; HEAD], h: Head, cause: Cause) -> u8
-    ensures { λ a. ⌜ ((gpr cr kgpr kcr ix vl : List ℕ) → did a (standing gpr cr kgpr kcr (now (words .exit)) ix vl) ≡ dooms (thread-with h gpr cr kgpr kcr ix vl) cause) ⌝ }
+pub fn dooms(words: &mut [u64; HEAD], h: Head, cause: Cause, exact: bool) -> u8
+    ensures { λ a. ⌜ ((gpr cr kgpr kcr ix vl : List ℕ) → did a (standing gpr cr kgpr kcr (now (words .exit)) ix vl) ≡ dooms (thread-with h gpr cr kgpr kcr ix vl) cause exact) ⌝ }
 {
     let k = h.control;
-    rows::write_head(&mut *words, advanced(recorded(h, cause, true)));
+    rows::write_head(&mut *words, advanced(recorded(h, cause, exact)));
     if thread::failed(k) {
         return answer::DONE;
     }

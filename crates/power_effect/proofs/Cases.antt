@@ -13,7 +13,7 @@ use Rattle.thread.specs.declared.Control.{Control}
 use Rattle.thread.specs.declared.Thread.{Thread}
 use Rattle.thread.specs.declared.Effect.{Effect}
 use Rattle.event.specs.declared.Event.{Event}
-use Rattle.event.specs.declared.Event.the-variants.{Tbegin, Tend, Tabort, Tabortwc, Tabortdc, Tsr, Tcheck, Treclaim, Trechkpt, Mtspr, Mfspr, Ld, Std, Addi, Disallowed, Interrupt, Host, Rfid, Mtmsrd}
+use Rattle.event.specs.declared.Event.the-variants.{Tbegin, Tend, Tabort, Tabortwc, Tabortdc, Tsr, Tcheck, Treclaim, Trechkpt, Mtspr, Mfspr, Ld, Std, Addi, Disallowed, Interrupt, Host, Rfid, Mtmsrd, Tlbie}
 use Rattle.power_common.specs.Common.{quiet, next, passes}
 use Rattle.power_special.specs.Special.{mfspr}
 use Rattle.power_plain.specs.Plain.{addi}
@@ -44,6 +44,7 @@ pub record Cases (P : Event → Works → Type 0) : Type 0 where
   pub disallowed : P Disallowed (effect Disallowed)
   pub interrupt : P Interrupt (effect Interrupt)
   pub host : (pr tm : Bool) → P (Host pr tm) (effect (Host pr tm))
+  pub tlbie : (p : ℕ) → P (Tlbie p) (effect (Tlbie p))
   -- rfid and mtmsrd: the control registers tell what is asked and where it goes on, at a multiple of 4
   pub returns : (e : Event) (a : Control → Asked) (at : Control → ℕ) → ((k : Control) → k .nia % 4 ≡ 0 → at k % 4 ≡ 0) → P e (λ t mem. quiet (returning t (a (t .control)) (at (t .control))))
   -- any that only sets general registers and goes on
@@ -70,3 +71,4 @@ effect-by P c Interrupt = c .interrupt
 effect-by P c (Host pr tm) = c .host pr tm
 effect-by P c Rfid = c .returns Rfid (λ k. by-srr1 (k .saved .srr1)) (λ k. k .saved .srr0 - k .saved .srr0 % 4) (λ k h. omega arith)
 effect-by P c (Mtmsrd t s tm pr) = c .returns (Mtmsrd t s tm pr) (λ k. asked t s tm pr) (λ k. next (k .nia)) (λ k h. omega arith)
+effect-by P c (Tlbie p) = c .tlbie p

@@ -1,4 +1,4 @@
--- Laws of effects: what is touched is one of the 256 lines; an effect that touches and writes nothing; what a rare event leaves past a log's count.
+-- Laws of effects: what is touched is one of the 256 lines, or one of the 8 pages; an effect that touches and writes nothing; what a rare event leaves past a log's count.
 use mathlib.Core.Path.{_≡_, refl, sym, ap, _∙_}
 use mathlib.Core.Bool.{Bool, true, false, _&&_, _||_, or-true}
 use mathlib.Core.List.{List}
@@ -7,7 +7,7 @@ use borrow.Author.Tests.{lt-ltb, le-leb, leb-true, leb-false}
 use lib.Dec.{eqb, leb, ltb}
 use native.Mathlib.Omega.{arith}
 use lib.ListN.{length}
-use Rattle.base.specs.Limits.{line-size, lines, most-places}
+use Rattle.base.specs.Limits.{line-size, lines, page-size, pages, most-places}
 use Rattle.base.specs.Below.{all-below}
 use Rattle.base.proofs.Below.{fork, all-from, and-intro}
 use Rattle.transaction.specs.Transaction as transaction
@@ -22,7 +22,7 @@ use Rattle.thread.specs.declared.Thread.{Thread}
 use Rattle.thread.specs.declared.Effect.{Effect}
 use Rattle.event.specs.Event.{operands-right}
 use Rattle.event.specs.declared.Event.{Event}
-use Rattle.event.proofs.Laws.{ld-in, std-in}
+use Rattle.event.proofs.Laws.{ld-in, std-in, tlbie-in}
 use Rattle.machine.specs.Valid.{place-right, unused-zero}
 use Rattle.rows.specs.Rows.{log-of, held}
 use Rattle.rows.specs.Landed.{Landed, landed}
@@ -34,7 +34,7 @@ use Rattle.power_common.specs.declared.Did.{Did}
 use Rattle.power_special.specs.Special.{mtspr}
 use Rattle.power_reclaims.specs.Reclaims.{treclaim, trechkpt}
 use Rattle.power_begins.specs.Begins.{commits, tend}
-use Rattle.power_access.specs.Access.{ld-overflows, std-overflows, ld, logs, std}
+use Rattle.power_access.specs.Access.{ld-overflows, std-overflows, ld, logs, std, tlbie}
 use Rattle.power_effect.specs.declared.Rare.{Rare}
 use Rattle.power_effect.specs.Effects.{effect}
 use Rattle.power_effect.proofs.Cases.{effect-by}
@@ -62,6 +62,16 @@ module _ (t : Thread) (i : ℕ) (below : line i < lines) where
   std-lined T v = fork Touches (std-overflows t i) (λ p. tt) (λ p. below)
   std-lined S v = below
 
+tlbie-lined : (s : State) (t : Thread) (p : ℕ) → p < pages → Touches (tlbie s t p)
+unfolding tlbie
+tlbie-lined N t p h = h
+tlbie-lined T t p h = tt
+tlbie-lined S t p h = h
+
+-- the number of a page of a memory
+pub page-in : (p len : ℕ) → page-size * p < len → len ≤ line-size * lines → p < pages
+page-in p len h m = omega arith
+
 pub effect-lined : (e : Event) (t : Thread) (mem : List ℕ) → operands-right e (length mem) ≡ true → length mem ≤ line-size * lines → Touches (effect e t mem)
 unfolding effect
 effect-lined e t mem o h =
@@ -82,6 +92,7 @@ effect-lined e t mem o h =
       disallowed = λ o. tt;
       interrupt = λ o. tt;
       host = λ pr tm o. tt;
+      tlbie = λ p o. tlbie-lined (t .control .msr .state) t p (page-in p _ (tlbie-in p _ o) h);
       returns = λ e a at m o. tt;
       registers = λ e g s o. tt;
     })

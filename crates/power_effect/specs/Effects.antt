@@ -1,16 +1,16 @@
--- What each event that is not refused does: its answer and thread, what it touches and what it writes (rules E1 to E19). The meanings are in the crates power_*.
+-- What each event that is not refused does: its answer and thread, what it touches and what it writes (rules E1 to E19, E26). The meanings are in the crates power_*.
 use Prim.Native.Nat.{ℕ}
 use mathlib.Core.List.{List}
 use Rattle.thread.specs.declared.Thread.{Thread}
 use Rattle.thread.specs.declared.Effect.{Effect}
 use Rattle.event.specs.declared.Event.{Event}
-use Rattle.event.specs.declared.Event.the-variants.{Tbegin, Tend, Tabort, Tabortwc, Tabortdc, Tsr, Tcheck, Treclaim, Trechkpt, Mtspr, Mfspr, Ld, Std, Addi, Disallowed, Interrupt, Host, Rfid, Mtmsrd}
+use Rattle.event.specs.declared.Event.the-variants.{Tbegin, Tend, Tabort, Tabortwc, Tabortdc, Tsr, Tcheck, Treclaim, Trechkpt, Mtspr, Mfspr, Ld, Std, Addi, Disallowed, Interrupt, Host, Rfid, Mtmsrd, Tlbie}
 use Rattle.power_common.specs.Common.{quiet, gpr, abort-cause}
 use Rattle.power_begins.specs.Begins.{tbegin, tend, tsr}
 use Rattle.power_aborts.specs.Aborts.{tabort, tabortwc, tabortdc}
 use Rattle.power_reclaims.specs.Reclaims.{tcheck, treclaim, trechkpt}
 use Rattle.power_special.specs.Special.{mtspr, mfspr}
-use Rattle.power_access.specs.Access.{ld, std}
+use Rattle.power_access.specs.Access.{ld, std, tlbie}
 use Rattle.power_plain.specs.Plain.{addi, disallowed, interrupt, host}
 use Rattle.power_returns.specs.Returns.{rfid, mtmsrd}
 
@@ -34,3 +34,4 @@ effect Interrupt t mem = quiet (interrupt t)
 effect (Host pr tm) t mem = quiet (host t pr tm)
 effect Rfid t mem = quiet (rfid t)
 effect (Mtmsrd b29 b30 tm pr) t mem = quiet (mtmsrd t b29 b30 tm pr)
+effect (Tlbie p) t mem = tlbie (t .control .msr .state) t p

@@ -1,4 +1,4 @@
-// An event done on its own thread's rows and on memory (rules E1 to E19): it goes to the crate of its group. Rare ones are done on the thread by value.
+// An event done on its own thread's rows and on memory (rules E1 to E19, E26): it goes to the crate of its group. Rare ones are done on the thread by value.
 ghost use mathlib.Core.Path.{_≡_};
 ghost use Prim.Native.Nat.{_≤_};
 ghost use lib.ListN.{length};
@@ -128,5 +128,6 @@ pub fn effect(
             let asked = Asked { t, s, tm, pr };
             quiet(power_returns::mtmsrd(gpr, cr, &*kgpr, &*kcr, words, asked))
         }
+        Event::Tlbie { page } => power_access::page::tlbie(gpr, cr, &*kgpr, &*kcr, words, page),
     }
 }

@@ -126,6 +126,7 @@ fn event(e: Event) {
         Event::Host { pr, tm } => host(pr, tm),
         Event::Rfid => say(b"rfid"),
         Event::Mtmsrd { t, s, tm, pr } => mtmsrd(t, s, tm, pr),
+        Event::Tlbie { page } => with(b"tlbie page ", page as u64),
     }
 }
 
@@ -143,7 +144,7 @@ fn malformed(n: u8, first: u8, kind: u8) {
     }
     with(b"kind ", kind as u64);
     if n == answer::NO_KIND {
-        say(b", not 1 to 19");
+        say(b", not 1 to 19 or 26");
     }
 }
 

@@ -127,6 +127,7 @@ fn turned_down(k: Control, e: Event) -> bool
         Event::Host { pr: _, tm: _ } => false,
         Event::Rfid => turns::is_bad(m, turns::by_srr1(saved.srr1)),
         Event::Mtmsrd { t, s, tm, pr } => turns::is_bad(m, Asked { t, s, tm, pr }),
+        Event::Tlbie { page: _ } => false,
     }
 }
 

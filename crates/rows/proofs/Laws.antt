@@ -10,8 +10,9 @@ use native.Mathlib.Nat.{mod-eq-of-lt}
 use native.Mathlib.Decide.{ℕ-discrete}
 use lib.Seq.{getD-set-same, getD-set-other, ext-getD}
 use borrow.Author.Tests.{lt-ltb, le-ltb, leb-true, leb-false}
-use Rattle.base.specs.Limits.{lines, most-places}
-use Rattle.lines.specs.Lines.{place, has}
+use Rattle.base.specs.Limits.{lines, words, most-places}
+use Rattle.lines.specs.Lines.{place, word, has}
+use Rattle.lines.specs.Inner.{shared}
 use Rattle.thread.specs.Thread.{with-nia}
 use Rattle.transaction.specs.Transaction.{no-entry, entry}
 use Rattle.base.specs.Below.{bit}
@@ -259,3 +260,10 @@ writes-has ws l h = ap (λ (x : ℕ). place x (l % 64)) (write-word ws (l / 64) 
 pub reads-has : (ws : List ℕ) (l : ℕ) → l < lines → has (head-of ws .reads) l ≡ place (getD ws (10 + l / 64) 0) (l % 64)
 unfolding has
 reads-has ws l h = ap (λ (x : ℕ). place x (l % 64)) (read-word ws (l / 64) (omega arith))
+
+-- a mask for one word of the sets of a row
+pub writes-masked : (ws : List ℕ) (k mask : ℕ) → k < words → shared (word (head-of ws .writes) k) mask ≡ shared (getD ws (14 + k) 0) mask
+writes-masked ws k mask h = ap (λ (x : ℕ). shared x mask) (write-word ws k h)
+
+pub reads-masked : (ws : List ℕ) (k mask : ℕ) → k < words → shared (word (head-of ws .reads) k) mask ≡ shared (getD ws (10 + k) 0) mask
+reads-masked ws k mask h = ap (λ (x : ℕ). shared x mask) (read-word ws k h)

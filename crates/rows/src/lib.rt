@@ -2,7 +2,9 @@
 ghost use mathlib.Core.Path.{_≡_};
 ghost use Prim.Native.Nat.{_+_, _/_, _%_, _≤_, _<_};
 ghost use lib.ListN.{length, getD};
+ghost use Rattle.base.specs.Limits as limits;
 ghost use Rattle.base.specs.Limits.{lines};
+ghost use Rattle.lines.specs.Inner.{shared};
 ghost use Rattle.lines.specs.Lines.{place, with};
 ghost use Rattle.thread.specs.Thread.{with-nia};
 ghost use Rattle.rows.specs.Rows.{flag, state-at, state-number, head-of, with-control, with-count, with-reads, with-writes};
@@ -182,6 +184,15 @@ pub fn has_line(words: &[u64; HEAD], from: usize, line: usize) -> bool
     let k = from + line / 64;
     let w = words[k];
     (w >> (line % 64)) % 2 == 1
+}
+
+// A set that begins at word 10 or 14 has a line of a mask, which is one for the set's word k.
+pub fn has_masked(words: &[u64; HEAD], from: usize, k: usize, mask: u64) -> bool
+    requires { ⌜ from ≤ 14 ⌝ }
+    requires { ⌜ k < limits.words ⌝ }
+    ensures { λ b. ⌜ b ≡ shared (getD (now (words .entry)) (from + k) 0) mask ⌝ }
+{
+    lines::shared(words[from + k], mask)
 }
 
 // The line joins the read set, or the write set.

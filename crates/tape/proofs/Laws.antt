@@ -7,10 +7,10 @@ use native.Mathlib.Omega.{arith}
 use native.Mathlib.Nat.{zero-add}
 use lib.ListN.{length, take, drop}
 use lib.Seq.{sets, sets-eq}
-use borrow.Author.Tests.{le-leb, lt-leb, eq-eqb, eqb-true}
+use borrow.Author.Tests.{le-leb, lt-leb, eq-eqb, ne-eqb, eqb-true}
 use lib.Dec.{eqb}
 use Rattle.event.specs.Event.{event-of}
-use Rattle.event.specs.Rows.{rows, kind-right, row}
+use Rattle.event.specs.Rows.{kind-right, row}
 use Rattle.event.specs.declared.Fields.{Fields}
 use Rattle.tape.specs.Tape.{record-size, first-byte, byte, record-at, fields-at, fixed-zero, unused-clear, judged, of-kind, read, number}
 use Rattle.tape.specs.declared.Read.{Read}
@@ -23,9 +23,9 @@ begun-right bs l b = rw (eq-eqb (length bs) record-size l, eq-eqb (byte bs 0) fi
 
 -- a kind that has a row, and those that have none
 pub kind-in : (f : Fields) (zero : Bool) (r : Read) → r ≡ judged f (zero && unused-clear (row (f .kind)) f)
-    → 1 ≤ f .kind → f .kind ≤ length rows → r ≡ of-kind f zero
+    → 1 ≤ f .kind → f .kind ≤ 19 → r ≡ of-kind f zero
 unfolding kind-right of-kind
-kind-in f zero r p lo hi = p ∙ simp (le-leb 1 (f .kind) lo, le-leb (f .kind) (length rows) hi)
+kind-in f zero r p lo hi = p ∙ simp (le-leb 1 (f .kind) lo, le-leb (f .kind) 19 hi)
 
 pub kind-is : (k : ℕ) (f : Fields) (zero : Bool) (r : Read) → kind-right k ≡ true → f .kind ≡ k
     → r ≡ judged f (zero && unused-clear (row k) f) → r ≡ of-kind f zero
@@ -34,11 +34,11 @@ kind-is k f zero r h e p = p ∙ simp (e, h)
 
 pub low : (f : Fields) (zero : Bool) → f .kind < 1 → Refused 8 ≡ of-kind f zero
 unfolding kind-right of-kind
-low f zero h = simp (lt-leb 1 (f .kind) h)
+low f zero h = let n : f .kind ≡ 26 → ⊥ = λ e. omega arith in simp (lt-leb 1 (f .kind) h, ne-eqb (f .kind) 26 n)
 
-pub high : (f : Fields) (zero : Bool) → length rows < f .kind → Refused 8 ≡ of-kind f zero
+pub high : (f : Fields) (zero : Bool) → 19 < f .kind → (f .kind ≡ 26 → ⊥) → Refused 8 ≡ of-kind f zero
 unfolding kind-right of-kind
-high f zero h = let l : 1 ≤ f .kind = omega arith in simp (le-leb 1 (f .kind) l, lt-leb (f .kind) (length rows) h)
+high f zero h n = let l : 1 ≤ f .kind = omega arith in simp (le-leb 1 (f .kind) l, lt-leb (f .kind) 19 h, ne-eqb (f .kind) 26 n)
 
 -- a record that has no number is of the right length, and its fields tell its thread and its event
 pub taken : (bs : List ℕ) → number (read bs) ≡ 0 → (length bs ≡ record-size) × (read bs ≡ Record (fields-at bs .thread) (event-of (fields-at bs)))

@@ -6,17 +6,17 @@ use Prim.Native.Nat.{ℕ, zero, suc, _+_, _-_, _*_, _/_, _%_, _≤_, _<_}
 use native.Mathlib.Omega.{arith}
 use lib.Dec.{eqb, leb}
 use lib.ListN.{getD, length}
-use borrow.Author.Tests.{eq-eqb, eqb-true, le-leb, lt-leb, leb-true}
+use borrow.Author.Tests.{eq-eqb, ne-eqb, eqb-true, le-leb, lt-leb, leb-true}
 use Rattle.base.specs.Below.{all-below}
 use Rattle.base.proofs.Below.{all-at, and-intro, and-left, and-right}
-use Rattle.event.specs.Rows.{rows, kind-right, no-row, row, used}
+use Rattle.event.specs.Rows.{rows, kind-right, no-row, row, used, spans}
 use Rattle.event.specs.declared.rows.Row.{Row}
 use Rattle.tape.specs.Tape.{record-size, first-byte, byte, two, four, fields-at, fixed-zero, unused-clear, judged, of-kind, read, number}
 use Rattle.tape.specs.FirstBad.{read-number}
 use Rattle.tape.specs.Inner.{most, limits, table, within}
 use Rattle.tape.specs.declared.Read.{Read}
 use Rattle.tape.specs.declared.Read.the-variants.{Record, Refused}
-use Rattle.tape.proofs.Laws.{kind-in}
+use Rattle.tape.proofs.Laws.{kind-is}
 
 -- the table has the limits of each kind
 each-row : (rs : List Row) (k : ℕ) → k < length rs → getD (map limits rs) k [] ≡ limits (getD rs k no-row)
@@ -106,9 +106,9 @@ module _ (bs : List ℕ) (r : Row) (small : (i : ℕ) → byte bs i < 256) where
       let x = used-or-none (used (r .x)) (byte bs 3) (at 3 (omega arith)) in
       let ra = used-or-none (used (r .ra)) (byte bs 4) (at 4 (omega arith)) in
       let rb = used-or-none (used (r .rb)) (byte bs 5) (at 5 (omega arith)) in
-      let high = two-joined (r .index) (byte bs 8) (byte bs 9) (at 8 (omega arith)) (at 9 (omega arith)) in
-      let low = two-joined (r .index) (byte bs 10) (byte bs 11) (at 10 (omega arith)) (at 11 (omega arith)) in
-      let index = halves (r .index) (byte bs 8) (byte bs 9) (byte bs 10) (byte bs 11) ∙ both high low in
+      let high = two-joined (spans (r .index)) (byte bs 8) (byte bs 9) (at 8 (omega arith)) (at 9 (omega arith)) in
+      let low = two-joined (spans (r .index)) (byte bs 10) (byte bs 11) (at 10 (omega arith)) (at 11 (omega arith)) in
+      let index = halves (spans (r .index)) (byte bs 8) (byte bs 9) (byte bs 10) (byte bs 11) ∙ both high low in
       let si = two-joined (r .si) (byte bs 12) (byte bs 13) (at 12 (omega arith)) (at 13 (omega arith)) in
       both z (both (both (both (both (both x ra) rb) (at 6 (omega arith))) index) si)
 
@@ -116,13 +116,13 @@ module _ (bs : List ℕ) (r : Row) (small : (i : ℕ) → byte bs i < 256) where
   unfolding limits unused-clear fields-at all-below
   clear-passes p =
       let t = each (eqb (byte bs 7) 0) (eqb (byte bs 14) 0) (eqb (byte bs 15) 0) (used (r .x) || eqb (byte bs 3) 0) (used (r .ra) || eqb (byte bs 4) 0)
-      (used (r .rb) || eqb (byte bs 5) 0) (leb (byte bs 6) (r .flags)) (r .index || eqb (four (byte bs 8) (byte bs 9) (byte bs 10) (byte bs 11)) 0)
+      (used (r .rb) || eqb (byte bs 5) 0) (leb (byte bs 6) (r .flags)) (spans (r .index) || eqb (four (byte bs 8) (byte bs 9) (byte bs 10) (byte bs 11)) 0)
       (r .si || eqb (two (byte bs 12) (byte bs 13)) 0) p in
-      let high = r .index || eqb (two (byte bs 8) (byte bs 9)) 0 in
-      let low = r .index || eqb (two (byte bs 10) (byte bs 11)) 0 in
-      let h : (high && low) ≡ true = sym (halves (r .index) (byte bs 8) (byte bs 9) (byte bs 10) (byte bs 11)) ∙ t .7 in
-      let a = two-apart (r .index) (byte bs 8) (byte bs 9) (small 8) (small 9) (and-left high low h) in
-      let b = two-apart (r .index) (byte bs 10) (byte bs 11) (small 10) (small 11) (and-right high low h) in
+      let high = spans (r .index) || eqb (two (byte bs 8) (byte bs 9)) 0 in
+      let low = spans (r .index) || eqb (two (byte bs 10) (byte bs 11)) 0 in
+      let h : (high && low) ≡ true = sym (halves (spans (r .index)) (byte bs 8) (byte bs 9) (byte bs 10) (byte bs 11)) ∙ t .7 in
+      let a = two-apart (spans (r .index)) (byte bs 8) (byte bs 9) (small 8) (small 9) (and-left high low h) in
+      let b = two-apart (spans (r .index)) (byte bs 10) (byte bs 11) (small 10) (small 11) (and-right high low h) in
       let c = two-apart (r .si) (byte bs 12) (byte bs 13) (small 12) (small 13) (t .8) in
       both (none-is (byte bs 15) (t .2))
       (both (none-is (byte bs 14) (t .1))
@@ -147,10 +147,10 @@ module _ (bs : List ℕ) (r : Row) (small : (i : ℕ) → byte bs i < 256) where
 
 -- the reader takes a record of a right kind that begins right and is within its limits
 module _ (bs : List ℕ) (small : (i : ℕ) → byte bs i < 256) (l : length bs ≡ record-size) where
-  pub good-in : 1 ≤ byte bs 1 → byte bs 1 ≤ length rows → (eqb (byte bs 0) first-byte && within bs (limits (row (byte bs 1)))) ≡ eqb (read-number bs) 0
+  pub good-in : kind-right (byte bs 1) ≡ true → (eqb (byte bs 0) first-byte && within bs (limits (row (byte bs 1)))) ≡ eqb (read-number bs) 0
   unfolding read within fields-at judged all-below limits
-  good-in lo hi =
-      simp (eq-eqb (length bs) record-size l) (ap (λ (w : Bool). eqb (byte bs 0) first-byte && w) (within-clear bs (row (byte bs 1)) small) ∙ go (eqb (byte bs 0) first-byte) (clear bs (row (byte bs 1)) small) _ (sym (kind-in (fields-at bs) (fixed-zero bs) _ refl lo hi)))
+  good-in k =
+      simp (eq-eqb (length bs) record-size l) (ap (λ (w : Bool). eqb (byte bs 0) first-byte && w) (within-clear bs (row (byte bs 1)) small) ∙ go (eqb (byte bs 0) first-byte) (clear bs (row (byte bs 1)) small) _ (sym (kind-is (byte bs 1) (fields-at bs) (fixed-zero bs) _ k refl refl)))
     where
       go : (b c : Bool) (x : Read) → x ≡ judged (fields-at bs) c → (b && c) ≡ eqb (number (cond (not b) (Refused 7) x)) 0
       go true true x e = sym (ap (λ (y : Read). eqb (number y) 0) e)
@@ -165,11 +165,19 @@ module _ (bs : List ℕ) (small : (i : ℕ) → byte bs i < 256) (l : length bs 
       go true = refl
       go false = refl
 
--- a number below the kinds or above them is none
+-- the numbers that are kinds, and those that are none
+pub kind-low : (k : ℕ) → 1 ≤ k → k ≤ 19 → kind-right k ≡ true
+unfolding kind-right
+kind-low k lo hi = simp (le-leb 1 k lo, le-leb k 19 hi)
+
+pub kind-page : (k : ℕ) → k ≡ 26 → kind-right k ≡ true
+unfolding kind-right
+kind-page k e = simp e
+
 pub no-kind-low : (k : ℕ) → k < 1 → kind-right k ≡ false
 unfolding kind-right
-no-kind-low k h = simp (lt-leb 1 k h)
+no-kind-low k h = let n : k ≡ 26 → ⊥ = λ e. omega arith in simp (lt-leb 1 k h, ne-eqb k 26 n)
 
-pub no-kind-high : (k : ℕ) → length rows < k → kind-right k ≡ false
+pub no-kind-high : (k : ℕ) → 19 < k → (k ≡ 26 → ⊥) → kind-right k ≡ false
 unfolding kind-right
-no-kind-high k h = let l : 1 ≤ k = omega arith in simp (le-leb 1 k l, lt-leb k (length rows) h)
+no-kind-high k h n = let l : 1 ≤ k = omega arith in simp (le-leb 1 k l, lt-leb k 19 h, ne-eqb k 26 n)

@@ -5,7 +5,7 @@ use mathlib.Core.List.{List, [], _∷_, map}
 use lib.Dec.{leb}
 use lib.ListN.{getD}
 use Rattle.base.specs.Below.{all-below}
-use Rattle.event.specs.Rows.{rows, used}
+use Rattle.event.specs.Rows.{rows, used, spans}
 use Rattle.event.specs.declared.rows.Row.{Row}
 use Rattle.tape.specs.Tape.{record-size, byte}
 
@@ -18,9 +18,9 @@ most false = 0
 unfoldable pub limits : Row → List ℕ
 limits r =
     255 ∷ 255 ∷ 255 ∷ most (used (r .x)) ∷ most (used (r .ra)) ∷ most (used (r .rb)) ∷ r .flags ∷ 0
-    ∷ most (r .index) ∷ most (r .index) ∷ most (r .index) ∷ most (r .index) ∷ most (r .si) ∷ most (r .si) ∷ 0 ∷ 0 ∷ []
+    ∷ most (spans (r .index)) ∷ most (spans (r .index)) ∷ most (spans (r .index)) ∷ most (spans (r .index)) ∷ most (r .si) ∷ most (r .si) ∷ 0 ∷ 0 ∷ []
 
--- the limits of all kinds
+-- the limits of all kinds, with those of no row between for the numbers that are none
 unfoldable pub table : List (List ℕ)
 unfolding rows limits
 table = map limits rows

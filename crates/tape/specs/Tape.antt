@@ -10,7 +10,7 @@ use Rattle.base.specs.Answers as answer
 use Rattle.event.specs.declared.Event.{Event}
 use Rattle.event.specs.declared.Fields.{Fields}
 use Rattle.event.specs.declared.rows.Row.{Row}
-use Rattle.event.specs.Rows.{kind-right, row, used}
+use Rattle.event.specs.Rows.{kind-right, row, used, spans}
 use Rattle.event.specs.Event.{event-of, fields-of}
 use Rattle.tape.specs.declared.Read.{Read}
 use Rattle.tape.specs.declared.Read.the-variants.{Record, Refused}
@@ -63,7 +63,7 @@ bytes f =
 unfoldable pub unused-clear : Row → Fields → Bool
 unused-clear r f =
     (used (r .x) || eqb (f .x) 0) && (used (r .ra) || eqb (f .ra) 0) && (used (r .rb) || eqb (f .rb) 0)
-    && leb (f .flags) (r .flags) && (r .index || eqb (f .index) 0) && (r .si || eqb (f .si) 0)
+    && leb (f .flags) (r .flags) && (spans (r .index) || eqb (f .index) 0) && (r .si || eqb (f .si) 0)
 
 -- number 9, or the thread and the event: clear says that every unused field and every fixed 0 byte is 0 and the flags are not too big
 unfoldable pub judged : Fields → Bool → Read

@@ -58,11 +58,12 @@ pub fn unused_clear(r: Row, f: Fields) -> bool
     let x = r.x;
     let ra = r.ra;
     let rb = r.rb;
+    let index = r.index;
     (rows::used(x) | (f.x == 0))
         & (rows::used(ra) | (f.ra == 0))
         & (rows::used(rb) | (f.rb == 0))
         & (f.flags <= r.flags)
-        & (r.index | (f.index == 0))
+        & (rows::spans(index) | (f.index == 0))
         & (r.si | (f.si == 0))
 }
 
@@ -87,6 +88,7 @@ pub fn of_kind(f: Fields, zero: bool) -> Read
     let kind = f.kind;
     match kind {
         1..=19 => judged(f, zero, event::row(kind), event::event_of(f)),
+        26 => judged(f, zero, event::row(kind), event::event_of(f)),
         _ => Read::Refused(answer::NO_KIND),
     }
 }

@@ -3,9 +3,10 @@ ghost use mathlib.Core.Path.{_≡_};
 ghost use Prim.Native.Nat.{_/_, _≤_};
 ghost use lib.Dec.{eqb};
 ghost use lib.ListN.{length};
-ghost use Rattle.event.specs.Rows.{rows};
+ghost use Rattle.event.specs.Rows.{rows, row};
 ghost use Rattle.tape.specs.Tape.{record-size};
 ghost use Rattle.tape.specs.FirstBad.{read-number, first-bad, bad-record};
+ghost use Rattle.tape.specs.Inner as inner;
 ghost use Rattle.tape.specs.Inner.{table, within};
 use crate::FIRST_BYTE;
 use crate::Found;
@@ -13,7 +14,7 @@ use crate::RECORD_SIZE;
 use crate::reader;
 use base::answer;
 
-const KINDS: usize = 19;
+const KINDS: usize = 26;
 
 // The largest value of each byte of a record, by the fields that its kind uses: any value where a byte is used, the largest flags of the row, and 0
 // where nothing may stand. First byte, kind and thread are judged elsewhere.
@@ -35,13 +36,15 @@ const X_RA: [u8; RECORD_SIZE] = [U, U, U, U, U, 0, 0, 0, 0, 0, 0, 0, 0, 0, 0, 0]
 
 const X_RA_RB: [u8; RECORD_SIZE] = [U, U, U, U, U, U, 0, 0, 0, 0, 0, 0, 0, 0, 0, 0];
 
+const INDEX: [u8; RECORD_SIZE] = [U, U, U, 0, 0, 0, 0, 0, U, U, U, U, 0, 0, 0, 0];
+
 const X_INDEX: [u8; RECORD_SIZE] = [U, U, U, U, 0, 0, 0, 0, U, U, U, U, 0, 0, 0, 0];
 
 const RA_INDEX: [u8; RECORD_SIZE] = [U, U, U, 0, U, 0, 0, 0, U, U, U, U, 0, 0, 0, 0];
 
 const X_RA_SI: [u8; RECORD_SIZE] = [U, U, U, U, U, 0, 0, 0, 0, 0, 0, 0, U, U, 0, 0];
 
-// The limits of each kind, kind 1 first: what the rows say (specs/Inner.antt).
+// The limits of each kind, kind 1 first: what the rows say (specs/Inner.antt). 20 to 25 are no kinds, and their limits are not looked at.
 const LIMITS: [[u8; RECORD_SIZE]; KINDS] = [
     FLAG,
     FLAG,
@@ -62,6 +65,13 @@ const LIMITS: [[u8; RECORD_SIZE]; KINDS] = [
     FLAGS,
     PLAIN,
     MSR,
+    PLAIN,
+    PLAIN,
+    PLAIN,
+    PLAIN,
+    PLAIN,
+    PLAIN,
+    INDEX,
 ];
 
 // Every byte of a record is within its limit. All are compared, so that the compiler may compare them at once.
@@ -78,6 +88,17 @@ fn within(s: &[u8], limits: &[u8; RECORD_SIZE]) -> bool
     all
 }
 
+// The same by the kind's own limits.
+fn fits(s: &[u8], limits: &[[u8; RECORD_SIZE]; KINDS], kind: u8) -> bool
+    requires { ⌜ length (now s) ≡ record-size ⌝ }
+    requires { ⌜ now limits ≡ table ⌝ }
+    requires { ⌜ (1 ≤ kind) × (kind ≤ length rows) ⌝ }
+    ensures { λ r. ⌜ r ≡ within (now (s .entry)) (inner.limits (row kind)) ⌝ }
+{
+    let own = limits[kind as usize - 1];
+    within(s, &own)
+}
+
 // Whether the reader takes a record of the right length. No event is built, and no branch goes by the kind, which a processor could not foretell.
 fn good(s: &[u8], limits: &[[u8; RECORD_SIZE]; KINDS]) -> bool
     requires { ⌜ length (now s) ≡ record-size ⌝ }
@@ -87,10 +108,8 @@ fn good(s: &[u8], limits: &[[u8; RECORD_SIZE]; KINDS]) -> bool
     let first = s[0];
     let kind = s[1];
     match kind {
-        1..=19 => {
-            let own = limits[kind as usize - 1];
-            (first == FIRST_BYTE) & within(s, &own)
-        }
+        1..=19 => (first == FIRST_BYTE) & fits(s, limits, kind),
+        26 => (first == FIRST_BYTE) & fits(s, limits, kind),
         _ => false,
     }
 }

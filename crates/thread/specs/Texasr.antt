@@ -2,7 +2,7 @@
 use Prim.Native.Nat.{ℕ, _+_, _-_, _*_, _/_, _%_, _^_}
 use mathlib.Core.Bool.{Bool, true, false}
 use Rattle.transaction.specs.declared.Cause.{Cause}
-use Rattle.transaction.specs.declared.Cause.the-variants.{Disallowed, Nesting, Footprint, OwnStore, PlainConflict, Conflict, Abort}
+use Rattle.transaction.specs.declared.Cause.the-variants.{Disallowed, Nesting, Footprint, OwnStore, PlainConflict, Conflict, Translation, Abort}
 
 -- the weight of bit b
 abbrev pub weight : ℕ → ℕ
@@ -47,4 +47,5 @@ cause-bits Footprint = 0x00200000
 cause-bits OwnStore = 0x00100000
 cause-bits PlainConflict = 0x00080000
 cause-bits Conflict = 0x00040000
+cause-bits Translation = 0x00020000
 cause-bits (Abort code) = code * 2 ^ 24 + 1

@@ -123,6 +123,7 @@ pub fn cause_bits(cause: Cause) -> u64
         Cause::OwnStore => 0x0010_0000,
         Cause::PlainConflict => 0x0008_0000,
         Cause::Conflict => 0x0004_0000,
+        Cause::Translation => 0x0002_0000,
         Cause::Abort(code) => code as u64 * 0x100_0000 + 1,
     }
 }

@@ -52,6 +52,10 @@ load x mem i = loaded (x .log) mem (lookup x i) i
 abbrev pub touches : Transaction → ℕ → Bool
 touches x l = lines.has (x .reads) l || lines.has (x .writes) l
 
+-- a line of the page is in one of the sets (rule M16)
+abbrev pub touches-page : Transaction → ℕ → Bool
+touches-page x p = lines.has-page (x .reads) p || lines.has-page (x .writes) p
+
 -- (a) no room for the line
 unfoldable pub crowded : Transaction → ℕ → Bool
 crowded x l = not (touches x l) && leb most-footprint (lines.footprint (x .reads) (x .writes))

@@ -35,14 +35,16 @@ pub enum Cause {
     OwnStore,
     PlainConflict,
     Conflict,
+    Translation,
     Abort(u8),
 }
 
-// What an event touches: nothing, or a line by a load or by a store. Other threads' transactions are held against it.
+// What an event touches: nothing, a line by a load or by a store, or a page by a tlbie. Other threads' transactions are held against it.
 pub enum Touch {
     Untouched,
     Load(usize),
     Store(usize),
+    Page(usize),
 }
 
 // What an event writes to memory: nothing, a doubleword, or the log of its thread's transaction.

@@ -2,10 +2,11 @@
 use Prim.Native.Nat.{ℕ, _-_, _≤_}
 use Rattle.conflict.proofs.Laws.{strike-none, strike-step, strike-above}
 use Rattle.conflict.specs.Conflict as conflict
-use Rattle.conflict.specs.Inner.{touching}
+use Rattle.conflict.specs.Inner.{Stands}
 use Rattle.machine.specs.Machine as machine
 use Rattle.rows.specs.Rows.{rows, threads-of}
 use Rattle.thread.specs.declared.Thread.{Thread}
+use Rattle.transaction.specs.declared.Touch.{Touch}
 use borrow.Author.Needs.{needs}
 use lib.Dec.{eqb}
 use lib.ListN.{set}
@@ -17,17 +18,17 @@ use Rattle.conflict.proofs.strike.Statement.{statement}
 use Rattle.conflict.proofs.strike.Tie as tie
 
 abbrev Inv-loop : tie.InvT-loop
-Inv-loop gpr₀ cr₀ kgpr kcr words₀ w stores line cause i₀ gpr cr words i =
+Inv-loop gpr₀ cr₀ kgpr kcr words₀ w stores k mask cause i₀ gpr cr words i =
     (i ≤ 4)
-    × ((ix vl : List (List ℕ)) → threads-of (rows gpr cr kgpr kcr words ix vl) ≡ conflict.strike (threads-of (rows gpr₀ cr₀ kgpr kcr words₀ ix vl)) w (touching stores line) cause i)
+    × ((ix vl : List (List ℕ)) (touch : Touch) → Stands touch stores k mask → threads-of (rows gpr cr kgpr kcr words ix vl) ≡ conflict.strike (threads-of (rows gpr₀ cr₀ kgpr kcr words₀ ix vl)) w touch cause i)
 
 abbrev μ-loop : tie.MeasureT-loop
-μ-loop gpr₀ cr₀ kgpr kcr words₀ w stores line cause i₀ gpr cr words i = 4 - i
+μ-loop gpr₀ cr₀ kgpr kcr words₀ w stores k mask cause i₀ gpr cr words i = 4 - i
 
 loop-holds : tie.Need-loop-holds Inv-loop μ-loop
 loop-holds c =
     let a = c .args in
-    (omega arith, λ ix vl. strike-none (threads-of (rows (a .gpr .now) (a .cr .now) (a .kgpr .now) (a .kcr .now) (a .words .now) ix vl)) (a .w) (touching (a .stores) (a .line)) (a .cause))
+    (omega arith, λ ix vl touch q. strike-none (threads-of (rows (a .gpr .now) (a .cr .now) (a .kgpr .now) (a .kcr .now) (a .words .now) ix vl)) (a .w) touch (a .cause))
 
 strike-at-requires : tie.Need-strike-at-requires Inv-loop μ-loop
 strike-at-requires c κs = search needs
@@ -44,19 +45,19 @@ loop-again c =
     let a = l .before .args in
     let i = l .loop .i in (
       omega arith,
-      λ ix vl.
+      λ ix vl touch q.
           let was = threads-of (rows (a .gpr .now) (a .cr .now) (a .kgpr .now) (a .kcr .now) (a .words .now) ix vl) in
-          let so-far = conflict.strike was (a .w) (touching (a .stores) (a .line)) (a .cause) i in
-          c .strike-at .ensures ix vl
-          ∙ ap (λ (ts : List Thread). cond (eqb i (a .w)) ts (set ts i (conflict.struck (machine.thread ts i .control .msr .state) (machine.thread ts i) (touching (a .stores) (a .line)) (a .cause)))) (l .loop .inv .1 ix vl)
-          ∙ ap (λ (t : Thread). cond (eqb i (a .w)) so-far (set so-far i (conflict.struck (t .control .msr .state) t (touching (a .stores) (a .line)) (a .cause)))) (strike-above was (a .w) (touching (a .stores) (a .line)) (a .cause) i i (omega arith))
-          ∙ sym (strike-step was (a .w) (touching (a .stores) (a .line)) (a .cause) i),
+          let so-far = conflict.strike was (a .w) touch (a .cause) i in
+          c .strike-at .ensures ix vl touch q
+          ∙ ap (λ (ts : List Thread). cond (eqb i (a .w)) ts (set ts i (conflict.struck (machine.thread ts i .control .msr .state) (machine.thread ts i) touch (a .cause)))) (l .loop .inv .1 ix vl touch q)
+          ∙ ap (λ (t : Thread). cond (eqb i (a .w)) so-far (set so-far i (conflict.struck (t .control .msr .state) t touch (a .cause)))) (strike-above was (a .w) touch (a .cause) i i (omega arith))
+          ∙ sym (strike-step was (a .w) touch (a .cause) i),
     )
 
 returns : tie.Need-returns Inv-loop μ-loop
 returns c =
     let a = c .before .before .args in
-    λ ix vl. c .before .loop .inv .1 ix vl ∙ ap (λ (n : ℕ). conflict.strike (threads-of (rows (a .gpr .now) (a .cr .now) (a .kgpr .now) (a .kcr .now) (a .words .now) ix vl)) (a .w) (touching (a .stores) (a .line)) (a .cause) n) (let e : c .before .loop .i ≡ 4 = omega arith in e)
+    λ ix vl touch q. c .before .loop .inv .1 ix vl touch q ∙ ap (λ (n : ℕ). conflict.strike (threads-of (rows (a .gpr .now) (a .cr .now) (a .kgpr .now) (a .kcr .now) (a .words .now) ix vl)) (a .w) touch (a .cause) n) (let e : c .before .loop .i ≡ 4 = omega arith in e)
 
 pub strike-spec : {M : Type 1} → statement M
 strike-spec =

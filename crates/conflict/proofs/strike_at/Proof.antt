@@ -1,7 +1,6 @@
 -- `conflict::strike_at` meets its contract.
 use Prim.Native.Nat.{ℕ}
 use Rattle.conflict.specs.Conflict.{struck}
-use Rattle.conflict.specs.Inner.{touching}
 use Rattle.machine.specs.Machine as machine
 use Rattle.rows.proofs.Laws.{thread-is, kept, changed, threads-anew}
 use Rattle.rows.specs.Rows.{Row, Rows, rows, threads-of}
@@ -20,7 +19,7 @@ abbrev at-start : (c : tie.Start) → List (List ℕ) → List (List ℕ) → Ro
 at-start c ix vl = rows (c .args .gpr .now) (c .args .cr .now) (c .args .kgpr .now) (c .args .kcr .now) (c .args .words .now) ix vl
 
 returns : tie.Need-returns
-returns c = λ ix vl. simp (eq-eqb _ _ (c .if1 .taken))
+returns c = λ ix vl touch q. simp (eq-eqb _ _ (c .if1 .taken))
 
 four-gprs-requires : tie.Need-four-gprs-requires
 four-gprs-requires c κs = search needs
@@ -71,13 +70,13 @@ returns-2 c =
     let s = e .before in
     let a = s .args in
     let h = s .pre .0 in
-    λ ix vl.
+    λ ix vl touch q.
     let ts = threads-of (at-start s ix vl) in
     let r : Row = record { gpr = c .struck .last .0; cr = c .struck .last .1 .0; kgpr = getD (a .kgpr .now) (a .i) []; kcr = getD (a .kcr .now) (a .i) []; words = c .struck .last .1 .1 .1 .1 .0; ix = getD ix (a .i) []; vl = getD vl (a .i) [] } in
     threads-anew (at-start s ix vl) (rows (set (a .gpr .now) (a .i) (r .gpr)) (set (a .cr .now) (a .i) (r .cr)) (a .kgpr .now) (a .kcr .now) (set (a .words .now) (a .i) (r .words)) ix vl) r (a .i) h
     (changed h (f .before .before .before .before .four-gprs .ensures)) (changed h (f .before .before .four-crs .ensures)) kept kept (changed h (f .four-heads .ensures)) kept kept
-    ∙ ap (set ts (a .i)) (c .struck .ensures (getD ix (a .i) []) (getD vl (a .i) []) ∙ ap (λ (t : Thread). struck (t .control .msr .state) t (touching (a .stores) (a .line)) (a .cause)) (sym (thread-is (at-start s ix vl) (a .i) h)))
-    ∙ sym (ap (λ (b : Bool). cond b ts (set ts (a .i) (struck (machine.thread ts (a .i) .control .msr .state) (machine.thread ts (a .i)) (touching (a .stores) (a .line)) (a .cause)))) (ne-eqb _ _ (e .if1 .left)))
+    ∙ ap (set ts (a .i)) (c .struck .ensures (getD ix (a .i) []) (getD vl (a .i) []) touch q ∙ ap (λ (t : Thread). struck (t .control .msr .state) t touch (a .cause)) (sym (thread-is (at-start s ix vl) (a .i) h)))
+    ∙ sym (ap (λ (b : Bool). cond b ts (set ts (a .i) (struck (machine.thread ts (a .i) .control .msr .state) (machine.thread ts (a .i)) touch (a .cause)))) (ne-eqb _ _ (e .if1 .left)))
 
 pub strike-at-spec : {M : Type 1} → statement M
 strike-at-spec =

@@ -1,10 +1,9 @@
 -- `event::event_of` meets its contract.
 use mathlib.Core.Path.{_≡_}
 use mathlib.Core.Bool.{false}
-use Prim.Native.Nat.{_/_, _%_}
 use lib.Dec.{eqb}
 use borrow.Author.Tests.{ne-eqb}
-use Rattle.event.specs.declared.Event.the-variants.{Mtmsrd}
+use Rattle.event.specs.declared.Event.the-variants.{Tlbie}
 use Rattle.event.specs.declared.Fields.{Fields}
 use Rattle.event.specs.Event.{event-of}
 use Rattle.event.proofs.event_of.Statement.{statement}
@@ -82,7 +81,11 @@ returns-18 : tie.Need-returns-18
 unfolding event-of
 returns-18 c = simp (c .match .keys18)
 
--- a kind that is none of 1 to 18
+returns-19 : tie.Need-returns-19
+unfolding event-of
+returns-19 c = simp (c .match .keys19)
+
+-- a kind that is none of 1 to 19
 last : (f : Fields)
     → eqb (f .kind) 1 ≡ false
     → eqb (f .kind) 2 ≡ false
@@ -102,32 +105,34 @@ last : (f : Fields)
     → eqb (f .kind) 16 ≡ false
     → eqb (f .kind) 17 ≡ false
     → eqb (f .kind) 18 ≡ false
-    → Mtmsrd (eqb (f .flags / 2 % 2) 1) (eqb (f .flags % 2) 1) (eqb (f .flags / 4 % 2) 1) (eqb (f .flags / 8 % 2) 1) ≡ event-of f
+    → eqb (f .kind) 19 ≡ false
+    → Tlbie (f .index) ≡ event-of f
 unfolding event-of
-last f p1 p2 p3 p4 p5 p6 p7 p8 p9 p10 p11 p12 p13 p14 p15 p16 p17 p18 = simp (p1, p2, p3, p4, p5, p6, p7, p8, p9, p10, p11, p12, p13, p14, p15, p16, p17, p18)
+last f p1 p2 p3 p4 p5 p6 p7 p8 p9 p10 p11 p12 p13 p14 p15 p16 p17 p18 p19 = simp (p1, p2, p3, p4, p5, p6, p7, p8, p9, p10, p11, p12, p13, p14, p15, p16, p17, p18, p19)
 
-returns-19 : tie.Need-returns-19
-returns-19 c =
+returns-20 : tie.Need-returns-20
+returns-20 c =
     let r = c .match .rest in
     last _
-    (ne-eqb _ 1 (r .0 .0 .0 .0 .0 .0 .0 .0 .0 .0 .0 .0 .0 .0 .0 .0 .0 .1))
-    (ne-eqb _ 2 (r .0 .0 .0 .0 .0 .0 .0 .0 .0 .0 .0 .0 .0 .0 .0 .0 .1))
-    (ne-eqb _ 3 (r .0 .0 .0 .0 .0 .0 .0 .0 .0 .0 .0 .0 .0 .0 .0 .1))
-    (ne-eqb _ 4 (r .0 .0 .0 .0 .0 .0 .0 .0 .0 .0 .0 .0 .0 .0 .1))
-    (ne-eqb _ 5 (r .0 .0 .0 .0 .0 .0 .0 .0 .0 .0 .0 .0 .0 .1))
-    (ne-eqb _ 6 (r .0 .0 .0 .0 .0 .0 .0 .0 .0 .0 .0 .0 .1))
-    (ne-eqb _ 7 (r .0 .0 .0 .0 .0 .0 .0 .0 .0 .0 .0 .1))
-    (ne-eqb _ 8 (r .0 .0 .0 .0 .0 .0 .0 .0 .0 .0 .1))
-    (ne-eqb _ 9 (r .0 .0 .0 .0 .0 .0 .0 .0 .0 .1))
-    (ne-eqb _ 10 (r .0 .0 .0 .0 .0 .0 .0 .0 .1))
-    (ne-eqb _ 11 (r .0 .0 .0 .0 .0 .0 .0 .1))
-    (ne-eqb _ 12 (r .0 .0 .0 .0 .0 .0 .1))
-    (ne-eqb _ 13 (r .0 .0 .0 .0 .0 .1))
-    (ne-eqb _ 14 (r .0 .0 .0 .0 .1))
-    (ne-eqb _ 15 (r .0 .0 .0 .1))
-    (ne-eqb _ 16 (r .0 .0 .1))
-    (ne-eqb _ 17 (r .0 .1))
-    (ne-eqb _ 18 (r .1))
+    (ne-eqb _ 1 (r .0 .0 .0 .0 .0 .0 .0 .0 .0 .0 .0 .0 .0 .0 .0 .0 .0 .0 .1))
+    (ne-eqb _ 2 (r .0 .0 .0 .0 .0 .0 .0 .0 .0 .0 .0 .0 .0 .0 .0 .0 .0 .1))
+    (ne-eqb _ 3 (r .0 .0 .0 .0 .0 .0 .0 .0 .0 .0 .0 .0 .0 .0 .0 .0 .1))
+    (ne-eqb _ 4 (r .0 .0 .0 .0 .0 .0 .0 .0 .0 .0 .0 .0 .0 .0 .0 .1))
+    (ne-eqb _ 5 (r .0 .0 .0 .0 .0 .0 .0 .0 .0 .0 .0 .0 .0 .0 .1))
+    (ne-eqb _ 6 (r .0 .0 .0 .0 .0 .0 .0 .0 .0 .0 .0 .0 .0 .1))
+    (ne-eqb _ 7 (r .0 .0 .0 .0 .0 .0 .0 .0 .0 .0 .0 .0 .1))
+    (ne-eqb _ 8 (r .0 .0 .0 .0 .0 .0 .0 .0 .0 .0 .0 .1))
+    (ne-eqb _ 9 (r .0 .0 .0 .0 .0 .0 .0 .0 .0 .0 .1))
+    (ne-eqb _ 10 (r .0 .0 .0 .0 .0 .0 .0 .0 .0 .1))
+    (ne-eqb _ 11 (r .0 .0 .0 .0 .0 .0 .0 .0 .1))
+    (ne-eqb _ 12 (r .0 .0 .0 .0 .0 .0 .0 .1))
+    (ne-eqb _ 13 (r .0 .0 .0 .0 .0 .0 .1))
+    (ne-eqb _ 14 (r .0 .0 .0 .0 .0 .1))
+    (ne-eqb _ 15 (r .0 .0 .0 .0 .1))
+    (ne-eqb _ 16 (r .0 .0 .0 .1))
+    (ne-eqb _ 17 (r .0 .0 .1))
+    (ne-eqb _ 18 (r .0 .1))
+    (ne-eqb _ 19 (r .1))
 
 pub event-of-spec : {M : Type 1} → statement M
 event-of-spec =
@@ -151,4 +156,5 @@ event-of-spec =
     returns-16
     returns-17
     returns-18
-    returns-19)
+    returns-19
+    returns-20)

@@ -142,6 +142,12 @@ asked-flags-requires c κs = search needs
 filled-requires-19 : tie.Need-filled-requires-19
 filled-requires-19 c κs = search needs
 
+enum-known-e-16 : tie.Need-enum-known-e-16
+enum-known-e-16 c = search needs
+
+filled-requires-20 : tie.Need-filled-requires-20
+filled-requires-20 c κs = search needs
+
 returns : tie.Need-returns
 unfolding fields-of
 returns c = simp (c .filled .ensures, c .before .flag .ensures .0, c .before .before .before .e .given .1)
@@ -218,6 +224,10 @@ returns-19 : tie.Need-returns-19
 unfolding fields-of
 returns-19 c = simp (c .filled19 .ensures, c .before .asked-flags .ensures, c .before .before .before .e15 .given .1)
 
+returns-20 : tie.Need-returns-20
+unfolding fields-of
+returns-20 c = simp (c .filled20 .ensures, c .before .before .e16 .given .1)
+
 pub fields-of-spec : {M : Type 1} → statement M
 fields-of-spec =
     tie.close
@@ -268,6 +278,8 @@ fields-of-spec =
     enum-known-e-15
     asked-flags-requires
     filled-requires-19
+    enum-known-e-16
+    filled-requires-20
     returns
     returns-2
     returns-3
@@ -286,4 +298,5 @@ fields-of-spec =
     returns-16
     returns-17
     returns-18
-    returns-19)
+    returns-19
+    returns-20)

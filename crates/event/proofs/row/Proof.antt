@@ -54,6 +54,9 @@ line-requires-15 c κs = search needs
 line-requires-16 : tie.Need-line-requires-16
 line-requires-16 c κs = search needs
 
+line-requires-17 : tie.Need-line-requires-17
+line-requires-17 c κs = search needs
+
 returns : tie.Need-returns
 unfolding row
 returns c = chosen 3 (c .line .ensures) (c .before .match .keys1)
@@ -100,40 +103,44 @@ returns-11 c = chosen 19 (c .line11 .ensures) (c .before .match .keys11)
 
 returns-12 : tie.Need-returns-12
 unfolding row
-returns-12 c =
-    neighbour 1 _ (chosen 1 (c .line12 .ensures)) (chosen 2 (c .line12 .ensures))
-    (c .before .before .if1 .left)
-    (c .before .if2 .taken)
+returns-12 c = chosen 26 (c .line12 .ensures) (c .before .match .keys12)
 
 returns-13 : tie.Need-returns-13
 unfolding row
 returns-13 c =
-    let r = c .before .before .before .before .match .rest in
-    neighbour 4 _ (chosen 4 (c .line13 .ensures)) (chosen 5 (c .line13 .ensures))
-    (past 3 _ (c .before .before .if2 .left) (r .0 .0 .0 .0 .0 .0 .0 .0 .0 .0 .1))
-    (c .before .if3 .taken)
+    neighbour 1 _ (chosen 1 (c .line13 .ensures)) (chosen 2 (c .line13 .ensures))
+    (c .before .before .if1 .left)
+    (c .before .if2 .taken)
 
 returns-14 : tie.Need-returns-14
 unfolding row
 returns-14 c =
-    let r = c .before .before .before .before .before .match .rest in
-    neighbour 10 _ (chosen 10 (c .line14 .ensures)) (chosen 11 (c .line14 .ensures))
-    (past 9 _ (past 8 _ (past 7 _ (past 6 _ (c .before .before .if3 .left) (r .0 .0 .0 .0 .0 .0 .0 .0 .0 .1)) (r .0 .0 .0 .0 .0 .0 .0 .0 .1)) (r .0 .0 .0 .0 .0 .0 .0 .1)) (r .0 .0 .0 .0 .0 .0 .1))
-    (c .before .if4 .taken)
+    let r = c .before .before .before .before .match .rest in
+    neighbour 4 _ (chosen 4 (c .line14 .ensures)) (chosen 5 (c .line14 .ensures))
+    (past 3 _ (c .before .before .if2 .left) (r .0 .0 .0 .0 .0 .0 .0 .0 .0 .0 .0 .1))
+    (c .before .if3 .taken)
 
 returns-15 : tie.Need-returns-15
 unfolding row
 returns-15 c =
-    let r = c .before .before .before .before .before .before .match .rest in
-    neighbour 15 _ (chosen 15 (c .line15 .ensures)) (chosen 16 (c .line15 .ensures))
-    (past 14 _ (past 13 _ (past 12 _ (c .before .before .if4 .left) (r .0 .0 .0 .0 .0 .1)) (r .0 .0 .0 .0 .1)) (r .0 .0 .0 .1))
-    (c .before .if5 .taken)
+    let r = c .before .before .before .before .before .match .rest in
+    neighbour 10 _ (chosen 10 (c .line15 .ensures)) (chosen 11 (c .line15 .ensures))
+    (past 9 _ (past 8 _ (past 7 _ (past 6 _ (c .before .before .if3 .left) (r .0 .0 .0 .0 .0 .0 .0 .0 .0 .0 .1)) (r .0 .0 .0 .0 .0 .0 .0 .0 .0 .1)) (r .0 .0 .0 .0 .0 .0 .0 .0 .1)) (r .0 .0 .0 .0 .0 .0 .0 .1))
+    (c .before .if4 .taken)
 
 returns-16 : tie.Need-returns-16
 unfolding row
 returns-16 c =
+    let r = c .before .before .before .before .before .before .match .rest in
+    neighbour 15 _ (chosen 15 (c .line16 .ensures)) (chosen 16 (c .line16 .ensures))
+    (past 14 _ (past 13 _ (past 12 _ (c .before .before .if4 .left) (r .0 .0 .0 .0 .0 .0 .1)) (r .0 .0 .0 .0 .0 .1)) (r .0 .0 .0 .0 .1))
+    (c .before .if5 .taken)
+
+returns-17 : tie.Need-returns-17
+unfolding row
+returns-17 c =
     let r = c .before .before .match .rest in
-    ⊎-elim (λ w. low _ (c .line16 .ensures) (w .taken)) (λ w. high _ (c .line16 .ensures) (past 19 _ (past 18 _ (past 17 _ (w .4 .left) (r .0 .0 .1)) (r .0 .1)) (r .1)))
+    ⊎-elim (λ w. low _ (c .line17 .ensures) (w .taken)) (λ w. high _ (c .line17 .ensures) (past 19 _ (past 18 _ (past 17 _ (w .4 .left) (r .0 .0 .0 .1)) (r .0 .0 .1)) (r .0 .1)) (r .1))
     (c .before .if1 .came)
 
 pub row-spec : {M : Type 1} → statement M
@@ -156,6 +163,7 @@ row-spec =
     line-requires-14
     line-requires-15
     line-requires-16
+    line-requires-17
     returns
     returns-2
     returns-3
@@ -171,4 +179,5 @@ row-spec =
     returns-13
     returns-14
     returns-15
-    returns-16)
+    returns-16
+    returns-17)

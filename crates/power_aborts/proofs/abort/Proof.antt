@@ -9,6 +9,7 @@ use Rattle.rows.specs.declared.Head.{Head}
 use Rattle.thread.specs.declared.State.{State}
 use Rattle.thread.specs.declared.Thread.{Thread}
 use borrow.Author.Needs.{needs}
+use mathlib.Core.Bool.{true}
 use mathlib.Core.List.{List}
 use mathlib.Core.Path.{_≡_, sym, ap, _∙_}
 use Rattle.power_aborts.proofs.abort.Statement.{statement}
@@ -72,7 +73,7 @@ returns-3 c =
     let r = e .before .before .before .before in
     let s = r .before .before in
     let g = c .before .told .ensures ∙ ap heads.told (r .read-head .ensures) in
-    λ ix vl. c .dooms .ensures (s .args .gpr .now) (s .args .cr .now) (s .args .kgpr .now) (s .args .kcr .now) ix vl ∙ (λ j. dooms (thread-with (g j) (s .args .gpr .now) (s .args .cr .now) (s .args .kgpr .now) (s .args .kcr .now) ix vl) (s .args .cause))
+    λ ix vl. c .dooms .ensures (s .args .gpr .now) (s .args .cr .now) (s .args .kgpr .now) (s .args .kcr .now) ix vl ∙ (λ j. dooms (thread-with (g j) (s .args .gpr .now) (s .args .cr .now) (s .args .kgpr .now) (s .args .kcr .now) ix vl) (s .args .cause) true)
     ∙ sym (by-state r State.S (e .enum-told3 .given .1) ix vl)
 
 pub abort-spec : {M : Type 1} → statement M

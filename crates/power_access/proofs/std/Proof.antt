@@ -1,6 +1,6 @@
 -- `power_access::std` meets its contract.
 use Rattle.base.specs.Answers as answer
-use Rattle.power_access.specs.Access.{stores, std}
+use Rattle.power_access.specs.Access.{stores, meets-own, std}
 use Rattle.power_common.specs.Common.{did}
 use Rattle.power_common.specs.declared.Did.{Did}
 use Rattle.rows.specs.Landed.{Landed, landed}
@@ -9,8 +9,10 @@ use Rattle.thread.specs.declared.Effect.{Effect}
 use Rattle.thread.specs.declared.State.{State}
 use Rattle.thread.specs.declared.Thread.{Thread}
 use Rattle.transaction.specs.Transaction.{written}
+use Rattle.transaction.specs.declared.Cause.the-variants.{OwnStore}
 use Rattle.transaction.specs.declared.Write.the-variants.{Doubleword}
 use borrow.Author.Needs.{needs}
+use mathlib.Core.Bool.{Bool, true}
 use mathlib.Core.Path.{_≡_, sym, ap, _∙_}
 use Rattle.power_access.proofs.std.Statement.{statement}
 use Rattle.power_access.proofs.std.Tie as tie
@@ -62,6 +64,9 @@ mul-mem-2 c = search needs
 slice-write-mem-2 : tie.Need-slice-write-mem-2
 slice-write-mem-2 c = search needs
 
+touches-requires : tie.Need-touches-requires
+touches-requires c κs = search needs
+
 meets-own-requires : tie.Need-meets-own-requires
 meets-own-requires c κs = search needs
 
@@ -91,10 +96,13 @@ same-length-2 c = search needs
 returns-3 : tie.Need-returns-3
 unfolding std written
 returns-3 c =
-    let e = c .before .before in
+    let t = c .before .before in
+    let e = t .before .before in
     let r = e .before .before in
     let s = r .before .before .before in
-    ap (λ (d : Did). left s (stores d (s .args .index) (Doubleword (s .args .index) (s .args .value)))) (c .meets-own .ensures (s .args .gpr .now) (s .args .cr .now) (s .args .kgpr .now) (s .args .kcr .now) (s .args .ix .now) (s .args .vl .now))
+    ap (λ (d : Did). left s (stores d (s .args .index) (Doubleword (s .args .index) (s .args .value))))
+    (c .meets-own .ensures (s .args .gpr .now) (s .args .cr .now) (s .args .kgpr .now) (s .args .kcr .now) (s .args .ix .now) (s .args .vl .now)
+    ∙ ap (λ (b : Bool). meets-own b (thread s) OwnStore true) (t .touches .ensures (s .args .ix .now) (s .args .vl .now)))
     ∙ sym (by-state r State.S (e .enum-told3 .given .1))
 
 pub std-spec : {M : Type 1} → statement M
@@ -112,6 +120,7 @@ std-spec =
     enum-told-3
     mul-mem-2
     slice-write-mem-2
+    touches-requires
     meets-own-requires
     same-length
     returns

@@ -1,14 +1,14 @@
 -- `power_effect::effect` meets its contract.
 use lib.ListN.{length}
 use mathlib.Core.Path.{_≡_, sym, ap, _∙_, subst}
-use Rattle.event.proofs.Laws.{tabort-register, tabortwc-registers, tabortdc-registers, tcheck-field, treclaim-register, mtspr-register, mfspr-register, ld-in, std-in, addi-registers}
+use Rattle.event.proofs.Laws.{tabort-register, tabortwc-registers, tabortdc-registers, tcheck-field, treclaim-register, mtspr-register, mfspr-register, ld-in, std-in, addi-registers, tlbie-in}
 use Rattle.event.specs.declared.Event.{Event}
 use Rattle.rows.specs.Landed.{landed}
 use Rattle.rows.specs.Rows.{standing}
 use Rattle.thread.specs.declared.Thread.{Thread}
 use Rattle.power_effect.specs.Effects.{effect}
 use Rattle.power_effect.specs.Inner.{Ready, rare}
-use Rattle.power_effect.proofs.Laws.{line-in, quieted}
+use Rattle.power_effect.proofs.Laws.{line-in, page-in, quieted}
 use borrow.Author.Needs.{needs}
 use Rattle.power_effect.proofs.effect.Statement.{statement}
 use Rattle.power_effect.proofs.effect.Tie as tie
@@ -243,6 +243,16 @@ mtmsrd-requires c κs = search needs
 quiet-requires-16 : tie.Need-quiet-requires-16
 quiet-requires-16 c κs = search needs
 
+enum-known-e-16 : tie.Need-enum-known-e-16
+enum-known-e-16 c = search needs
+
+tlbie-requires : tie.Need-tlbie-requires
+tlbie-requires c κs =
+    let e = c .before .before .before .before .before .before in
+    let s = e .before .before .before in
+    let r = ready s _ (e .e16 .given .1) in
+    page-in _ _ (tlbie-in _ _ (r .operands)) (r .memory)
+
 returns : tie.Need-returns
 unfolding effect
 returns c =
@@ -404,6 +414,13 @@ returns-19 c =
     let s = e .before .before .before in
     quieted _ _ _ _ (thread s .transaction) (s .args .mem .now) (c .quiet16 .ensures) (f .mtmsrd .ensures (s .args .ix .now) (s .args .vl .now)) ∙ done s _ (e .e15 .given .1)
 
+returns-20 : tie.Need-returns-20
+unfolding effect
+returns-20 c =
+    let e = c .before .before .before .before .before .before .before in
+    let s = e .before .before .before in
+    c .tlbie .ensures (s .args .ix .now) (s .args .vl .now) (s .args .mem .now) (thread s .transaction) ∙ done s _ (e .e16 .given .1)
+
 pub effect-spec : {M : Type 1} → statement M
 effect-spec =
     tie.close
@@ -465,6 +482,8 @@ effect-spec =
     enum-known-e-15
     mtmsrd-requires
     quiet-requires-16
+    enum-known-e-16
+    tlbie-requires
     returns
     same-length
     returns-2
@@ -486,4 +505,5 @@ effect-spec =
     returns-16
     returns-17
     returns-18
-    returns-19)
+    returns-19
+    returns-20)

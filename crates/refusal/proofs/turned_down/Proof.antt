@@ -70,6 +70,9 @@ enum-known-e c = search needs
 is-bad-requires-2 : tie.Need-is-bad-requires-2
 is-bad-requires-2 c κs = search needs
 
+enum-told-19 : tie.Need-enum-told-19
+enum-told-19 c = search needs
+
 returns : tie.Need-returns
 unfolding turned-down
 returns c = simp (c .enum-told .given .1)
@@ -146,6 +149,10 @@ returns-19 : tie.Need-returns-19
 unfolding turned-down
 returns-19 c = simp (c .is-bad2 .ensures, c .before .before .e .given .1)
 
+returns-20 : tie.Need-returns-20
+unfolding turned-down
+returns-20 c = simp (c .enum-told19 .given .1)
+
 pub turned-down-spec : {M : Type 1} → statement M
 turned-down-spec =
     tie.close
@@ -172,6 +179,7 @@ turned-down-spec =
     is-bad-requires
     enum-known-e
     is-bad-requires-2
+    enum-told-19
     returns
     returns-2
     returns-3
@@ -190,4 +198,5 @@ turned-down-spec =
     returns-16
     returns-17
     returns-18
-    returns-19)
+    returns-19
+    returns-20)

@@ -21,6 +21,9 @@ enum-told-5 c = search needs
 enum-told-6 : tie.Need-enum-told-6
 enum-told-6 c = search needs
 
+enum-told-7 : tie.Need-enum-told-7
+enum-told-7 c = search needs
+
 enum-known-cause : tie.Need-enum-known-cause
 enum-known-cause c = search needs
 
@@ -52,7 +55,10 @@ returns-6 : tie.Need-returns-6
 returns-6 c = search needs
 
 returns-7 : tie.Need-returns-7
-returns-7 c = (simp (c .before .cause .given .1), search needs)
+returns-7 c = search needs
+
+returns-8 : tie.Need-returns-8
+returns-8 c = (simp (c .before .cause .given .1), search needs)
 
 pub cause-bits-spec : {M : Type 1} → statement M
 cause-bits-spec =
@@ -64,6 +70,7 @@ cause-bits-spec =
     enum-told-4
     enum-told-5
     enum-told-6
+    enum-told-7
     enum-known-cause
     cast-result
     mul-result
@@ -74,4 +81,5 @@ cause-bits-spec =
     returns-4
     returns-5
     returns-6
-    returns-7)
+    returns-7
+    returns-8)

@@ -12,13 +12,13 @@ in-range-requires-2 c κs = search needs
 in-range-requires-3 : tie.Need-in-range-requires-3
 in-range-requires-3 c κs = search needs
 
-cast-result : tie.Need-cast-result
-cast-result c = search needs
+in-memory-requires : tie.Need-in-memory-requires
+in-memory-requires c κs = search needs
 
 returns : tie.Need-returns
 returns c =
-    let i = c .before .before in
-    simp (i .in-range3 .ensures, i .before .in-range2 .ensures, i .before .before .in-range .ensures)
+    let i = c .before in
+    simp (c .in-memory .ensures, i .in-range3 .ensures, i .before .in-range2 .ensures, i .before .before .in-range .ensures)
 
 pub fields-right-spec : {M : Type 1} → statement M
-fields-right-spec = tie.close (tie.spec in-range-requires in-range-requires-2 in-range-requires-3 cast-result returns)
+fields-right-spec = tie.close (tie.spec in-range-requires in-range-requires-2 in-range-requires-3 in-memory-requires returns)

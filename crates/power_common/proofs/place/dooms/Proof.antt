@@ -30,7 +30,7 @@ returns c =
     let a = r .before .before .before .args in
     let e = w .write-head .ensures ∙ w .before .advanced .ensures ∙ ap advanced (r .recorded .ensures) in
     λ gpr cr kgpr kcr ix vl. (λ j. did answer.done (thread-with (e j) gpr cr kgpr kcr ix vl))
-    ∙ dooms-is (a .h) gpr cr kgpr kcr ix vl (a .cause) true (sym (f .failed .ensures) ∙ c .if1 .taken)
+    ∙ dooms-is (a .h) gpr cr kgpr kcr ix vl (a .cause) (a .exact) true (sym (f .failed .ensures) ∙ c .if1 .taken)
 
 returns-2 : tie.Need-returns-2
 returns-2 c =
@@ -40,7 +40,7 @@ returns-2 c =
     let a = r .before .before .before .args in
     let e = w .write-head .ensures ∙ w .before .advanced .ensures ∙ ap advanced (r .recorded .ensures) in
     λ gpr cr kgpr kcr ix vl. (λ j. did answer.recorded (thread-with (e j) gpr cr kgpr kcr ix vl))
-    ∙ dooms-is (a .h) gpr cr kgpr kcr ix vl (a .cause) false (sym (f .failed .ensures) ∙ c .if1 .left)
+    ∙ dooms-is (a .h) gpr cr kgpr kcr ix vl (a .cause) (a .exact) false (sym (f .failed .ensures) ∙ c .if1 .left)
 
 pub dooms-spec : {M : Type 1} → statement M
 dooms-spec =
