@@ -11,14 +11,14 @@ use lib.Seq.{getD-append-add, length-take-le}
 use borrow.Author.Tests.{eq-eqb, ne-eqb, eqb-true, eqb-false, le-leb, ltb-false}
 use Rattle.base.proofs.Below.{fork, and-intro, all-from}
 use Rattle.event.specs.Rows.{kind-right, row}
-use Rattle.event.specs.Event.{kind, operands-right, event-of}
+use Rattle.event.specs.Event.{kind, operands-right, event-of, tm-instruction}
 use Rattle.event.specs.declared.Event.{Event}
 use Rattle.thread.specs.declared.Control.{Control}
 use Rattle.machine.specs.Machine.{thread}
 use Rattle.machine.specs.Valid.{valid, first-of}
 use Rattle.machine.specs.declared.Machine.{Machine}
 use Rattle.machine.proofs.Validity.{valid-passes, passes-valid}
-use Rattle.refusal.specs.Refusal.{host-in-t, off, forbidden, bad-thing, refused-there, refused-later, refusal}
+use Rattle.refusal.specs.Refusal.{host-in-t, off, forbidden, bad-thing, refused-there, refused-later, refusal, turned-down}
 use Rattle.refusal.proofs.Laws.{refusal-valid}
 use Rattle.step.specs.Step.{Outcome, step}
 use Rattle.step.proofs.Laws.{step-refused}
@@ -61,7 +61,7 @@ there-stops k e =
     fork Stopping (host-in-t (k .msr .state) (kind e)) (λ p. inr refl)
     (λ p. fork Stopping (off k e) (λ q. inr refl)
     (λ q. fork Stopping (forbidden k e) (λ r. inr refl)
-    (λ r. fork Stopping (bad-thing (k .msr .state) k (kind e)) (λ t. inr refl) (λ t. inl refl))))
+    (λ r. fork Stopping (bad-thing (k .msr .state) k (kind e) (tm-instruction e) || turned-down k e) (λ t. inr refl) (λ t. inl refl))))
 
 later-stops : (m : Machine) (len w : ℕ) (e : Event) → Stopping (refused-later m len w e)
 unfolding refused-later
