@@ -57,6 +57,18 @@ fn index(rng: &mut Rng, m: &Machine, len: usize, thread: u8) -> u32 {
     i as u32
 }
 
+/// The page beside one of the thread's lines that is at a border of its own.
+fn page_beside(rng: &mut Rng, t: &Thread, lines: usize) -> Option<usize> {
+    let both = t.reads.union(&t.writes);
+    let from = rng.below(lines);
+    let mut around = (from..lines).chain(0..from).filter(|&l| both.contains(l));
+    around.find_map(|l| match l % PAGE {
+        0 if l > 0 => Some(l / PAGE - 1),
+        last if last == PAGE - 1 && l + 1 < lines => Some(l / PAGE + 1),
+        _ => None,
+    })
+}
+
 /// A page for a tlbie by this thread: one where a thread that is there, itself
 /// or another, has a line, one beside it, any, the last, the first past the
 /// memory, and ones whose first doubleword would be in memory if it wrapped.
@@ -66,16 +78,15 @@ fn page(rng: &mut Rng, m: &Machine, len: usize, thread: u8) -> u32 {
     let count = m.count.clamp(1, THREADS);
     let me = usize::from(thread) % count;
     let own = line_of(rng, &m.threads[me], lines).unwrap_or(0) / PAGE;
-    let other = (me + 1 + rng.below(count)) % count;
-    let theirs = line_of(rng, &m.threads[other], lines).unwrap_or(0) / PAGE;
-    let page = match rng.below(16) {
+    let other = &m.threads[(me + 1 + rng.below(count)) % count];
+    let theirs = line_of(rng, other, lines).unwrap_or(0) / PAGE;
+    let page = match rng.below(20) {
         0..=3 => own,
-        4..=8 => theirs,
-        9 => (own + 1) % pages,
-        10 => (theirs + 1) % pages,
-        11 => (theirs + pages - 1) % pages,
-        12..=13 => rng.below(pages),
-        14 => pages - 1,
+        4..=7 => theirs,
+        8..=12 => page_beside(rng, &m.threads[me], lines).unwrap_or(own),
+        13..=15 => page_beside(rng, other, lines).unwrap_or(theirs),
+        16..=17 => rng.below(pages),
+        18 => pages - 1,
         _ => {
             let any = rng.bits() as usize;
             let wraps = any << 23 | rng.below(pages);
@@ -97,7 +108,7 @@ pub fn event(rng: &mut Rng, m: &Machine, len: usize) -> (u8, Event) {
     };
     let kind = rng.pick([
         1, 2, 3, 4, 5, 6, 7, 8, 9, 10, 11, 12, 13, 14, 15, 16, 17, 18, 19, 26, 1, 2, 6, 10, 12, 12,
-        13, 13, 13, 18, 19, 26,
+        13, 13, 13, 18, 19, 26, 26,
     ]);
     (thread, event_of(rng, m, len, thread, kind))
 }

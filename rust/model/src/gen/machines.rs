@@ -61,10 +61,13 @@ fn fill_sets(rng: &mut Rng, t: &mut Thread, len: usize, held: &LineSet, written:
     let lines = len / LINE;
     let some = rng.below(MAX_FOOTPRINT as usize + 1);
     let full = MAX_FOOTPRINT as usize;
-    let goal = rng.pick([0, 1, 2, 3, 6, some, full - 1, full, full, full]) as u32;
+    // Now and then a transaction has a few lines at the borders of pages alone.
+    let at_borders = rng.one_in(5);
+    let goal = match at_borders {
+        true => 1 + rng.below(3),
+        false => rng.pick([0, 1, 2, 3, 6, some, full - 1, full, full, full, full]),
+    } as u32;
     let writing = rng.pick([0, 1, 1, 2, 3, 4]);
-    // Now and then a transaction has lines at the borders of pages alone.
-    let at_borders = rng.one_in(6);
     let draw = if at_borders { line_at_border } else { line };
     for _ in 0..400 {
         let l = draw(rng, lines);

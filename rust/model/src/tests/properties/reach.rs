@@ -11,7 +11,7 @@ use crate::Msr;
 fn reach() {
     let mut seen = Seen::default();
     let mut rng = Rng::new(77);
-    for _ in 0..80_000 {
+    for _ in 0..120_000 {
         seen.event(&Stepped::draw(&mut rng));
     }
     let wanted = wanted();
