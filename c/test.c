@@ -657,6 +657,54 @@ static void interrupted(int doomed) {
   }
 }
 
+static struct naszeptan_event tlbie(uint8_t thread, uint32_t page) {
+  struct naszeptan_event e = event(NASZEPTAN_TLBIE, thread);
+  e.index = page;
+  return e;
+}
+
+/* Thread 0, privileged, suspended after a load of doubleword 17. */
+static void suspended_with_line_1(void) {
+  desk = naszeptan_fresh();
+  spares(flagged(NASZEPTAN_HOST, 2));
+  spares(event(NASZEPTAN_TBEGIN, 0));
+  spares(load(0, 4, 17));
+  spares(flagged(NASZEPTAN_TSR, 0));
+}
+
+/* docs/RULES.md, K19, K20 and K21: a tlbie of a page of which a line is in the
+ * sets, of the page beside it, and by another thread; and K26, the last page. */
+static void pages(void) {
+  suspended_with_line_1();
+  fails(tlbie(0, 0), NASZEPTAN_RECORDED, 1);
+  struct naszeptan_control k = desk.threads[0].control;
+  CHECK(k.texasr == UINT64_C(0x0002000088000001) && k.tfiar == 0x000C);
+  CHECK(NASZEPTAN_TEXASR_TRANSLATION_INVALIDATION(k.texasr) == 1);
+  CHECK(NASZEPTAN_TEXASR_EXACT(k.texasr) == 0 && k.doomed == 1);
+  CHECK(is_at(NASZEPTAN_S, 0, 1, 0x0010) && desk.threads[0].cr0 == 4);
+  fails(flagged(NASZEPTAN_TSR, 1), NASZEPTAN_HANDLED, 1);
+  CHECK(is_at(NASZEPTAN_N, 0, 1, 0x0004));
+  suspended_with_line_1();
+  spares(tlbie(0, 1));
+  k = desk.threads[0].control;
+  CHECK(k.texasr == 1 && k.tfiar == 0 && k.doomed == 0 && k.nia == 0x0010);
+  spares(flagged(NASZEPTAN_TSR, 1));
+  CHECK(desk.threads[0].control.state == NASZEPTAN_T);
+  desk = naszeptan_fresh();
+  desk.threads[1].control.pr = 0;
+  spares(event(NASZEPTAN_TBEGIN, 0));
+  spares(load(0, 4, 17));
+  fails(tlbie(1, 0), NASZEPTAN_DONE, 1);
+  CHECK(desk.threads[0].control.texasr == UINT64_C(0x0002000018000001));
+  CHECK(is_at(NASZEPTAN_N, 1, 1, 0x0004) && desk.threads[0].cr0 == 10);
+  refused(desk, NASZEPTAN_MEMORY, tlbie(1, 8), NASZEPTAN_OPERAND);
+  refused(desk, 1024, tlbie(1, 2), NASZEPTAN_OPERAND);
+  refused(desk, 1040, tlbie(1, 3), NASZEPTAN_OPERAND);
+  refused(desk, NASZEPTAN_MEMORY, tlbie(1, UINT32_C(1) << 23),
+          NASZEPTAN_OPERAND);
+  refused(desk, NASZEPTAN_MEMORY, tlbie(0, 0), NASZEPTAN_PRIVILEGED);
+}
+
 /* docs/RULES.md, E0.11: what TS and TM become by the state and TM before (N, 0;
  * N, 1; S, 0; S, 1) and the TS and TM that are asked (N, S, T, no state, each
  * with TM = 0 and 1); 13 is a Bad Thing. */
@@ -926,6 +974,7 @@ int main(void) {
   failed_others();
   fields();
   returns();
+  pages();
   special_registers();
   records();
   reader_of_edition_two();

@@ -35,7 +35,7 @@ extern "C" {
 /* The version of the rules that this header was written for: the model's
  * version in the upper 16 bits, the change requests that have landed in the
  * lower. naszeptan_version() gives the archive's. */
-#define NASZEPTAN_VERSION UINT32_C(0x00040008)
+#define NASZEPTAN_VERSION UINT32_C(0x00040009)
 
 /* Sizes. */
 #define NASZEPTAN_THREADS 4        /* thread records of a machine */
@@ -43,6 +43,7 @@ extern "C" {
 #define NASZEPTAN_CR_FIELDS 7      /* CR fields 1 to 7; CR0 stands apart */
 #define NASZEPTAN_LINE_WORDS 4     /* words of a line set: 256 lines */
 #define NASZEPTAN_LINE 16          /* doublewords of a line */
+#define NASZEPTAN_PAGE 32          /* lines of a page */
 #define NASZEPTAN_MEMORY 4096      /* doublewords of the largest memory */
 #define NASZEPTAN_PLACES 64        /* places of a transaction's log */
 #define NASZEPTAN_LEVELS 4095      /* the highest level of a transaction */
@@ -56,12 +57,14 @@ enum naszeptan_answer {
   NASZEPTAN_SIZE = 1,          /* memory length or thread count */
   NASZEPTAN_NO_MACHINE = 2,    /* not a valid machine, or no session */
   NASZEPTAN_NO_THREAD = 3,     /* the event's thread is not below the count */
-  NASZEPTAN_OPERAND = 4,       /* register, BF, TO, SPR or index out of range */
+  NASZEPTAN_OPERAND = 4,       /* register, BF, TO, SPR, index or page out of
+                                  range */
   NASZEPTAN_HOST_IN_T = 5,     /* the host event on a Transactional thread */
   NASZEPTAN_TAPE_LENGTH = 6,   /* tape not a multiple of 16 bytes */
   NASZEPTAN_BAD_FIRST_BYTE = 7,/* a record's first byte is not 0xE3; edition two:
                                   above 3 */
-  NASZEPTAN_NO_KIND = 8,       /* kind not 1 to 19; edition two: not 1 to 17 */
+  NASZEPTAN_NO_KIND = 8,       /* kind not 1 to 19 or 26; edition two: not 1 to
+                                  17 */
   NASZEPTAN_FIELD = 9,         /* an unused field or a fixed byte is not 0, or
                                   flags too big */
   NASZEPTAN_SHORT_BUFFER = 10, /* the writer's buffer has under 16 bytes */
@@ -80,8 +83,8 @@ enum naszeptan_state {
   NASZEPTAN_S = 2  /* Suspended */
 };
 
-/* The nineteen kinds of event, and the fields that each uses. A field that
- * its kind does not use must be 0. */
+/* The twenty kinds of event, and the fields that each uses. A field that its
+ * kind does not use must be 0. 20 to 25 are no kinds. */
 enum naszeptan_kind {
   NASZEPTAN_TBEGIN = 1,     /* flags: R */
   NASZEPTAN_TEND = 2,       /* flags: A */
@@ -101,7 +104,8 @@ enum naszeptan_kind {
   NASZEPTAN_INTERRUPT = 16, /* none */
   NASZEPTAN_HOST = 17,      /* flags: PR + 2 * TM */
   NASZEPTAN_RFID = 18,      /* none: SRR1 asks */
-  NASZEPTAN_MTMSRD = 19     /* flags: TS + 4 * TM + 8 * PR */
+  NASZEPTAN_MTMSRD = 19,    /* flags: TS + 4 * TM + 8 * PR */
+  NASZEPTAN_TLBIE = 26      /* index: the page, of NASZEPTAN_PAGE lines */
 };
 
 /* TS, by which rfid and mtmsrd ask for a state, has the MSR's numbers, which
@@ -128,8 +132,8 @@ enum naszeptan_kind {
 /* The fields of TEXASR, by docs/RULES.md, X2. Each macro takes the 64 bits and
  * gives the field as a number, a flag as 0 or 1. Beside each stands the macro
  * for it in gcc's htmintrin.h, which takes the same bits (its _TEXASRU_ ones
- * take the upper half, as SPR 131 gives it). The model never sets translation
- * invalidation and HV, nor the two fields that are marked; hardware may.
+ * take the upper half, as SPR 131 gives it). The model never sets HV, nor the
+ * two fields that are marked; hardware may.
  * naszeptan_words.h tells all of this in words. */
 #define NASZEPTAN_TEXASR_FIELD(texasr, last, size) \
   ((uint64_t)(texasr) >> (63 - (last)) & ((UINT64_C(1) << (size)) - 1))
@@ -155,7 +159,8 @@ enum naszeptan_kind {
 /* 13, _TEXASR_TRANSACTION_CONFLICT */
 #define NASZEPTAN_TEXASR_TRANSACTION_CONFLICT(texasr) \
   NASZEPTAN_TEXASR_FIELD(texasr, 13, 1)
-/* 14, _TEXASR_TRANSLATION_INVALIDATION_CONFLICT */
+/* 14, _TEXASR_TRANSLATION_INVALIDATION_CONFLICT: a tlbie, another thread's or
+ * the thread's own in Suspended state, for which EXACT is 0 too */
 #define NASZEPTAN_TEXASR_TRANSLATION_INVALIDATION(texasr) \
   NASZEPTAN_TEXASR_FIELD(texasr, 14, 1)
 /* 15, _TEXASR_IMPLEMENTAION_SPECIFIC (so spelled): of the Power ISA alone */

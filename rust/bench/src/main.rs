@@ -17,7 +17,7 @@ mod time;
 use std::process::ExitCode;
 
 use measure::{each, Times};
-use naszeptan::{KINDS, PIECE};
+use naszeptan::{Kind, KINDS, PIECE};
 use setting::Setting;
 use sides::Start;
 use tapes::Tape;
@@ -43,11 +43,11 @@ fn line(name: &str, records: usize, times: &Times) -> String {
 fn shares(tape: &[u8]) -> String {
     let counts = tapes::kinds(tape);
     let all: usize = counts.iter().sum();
-    let share = |(kind, count): (usize, &usize)| {
+    let share = |(kind, count): (&Kind, &usize)| {
         let share = *count as f64 * 100.0 / all as f64;
-        format!("{:10} {share:5.2} %", KINDS[kind].name)
+        format!("{:10} {share:5.2} %", kind.name)
     };
-    let shares: Vec<String> = counts.iter().enumerate().map(share).collect();
+    let shares: Vec<String> = KINDS.iter().zip(&counts).map(share).collect();
     let lines: Vec<String> = shares.chunks(5).map(|line| line.join("   ")).collect();
     lines.join("\n")
 }

@@ -63,11 +63,12 @@ fn filled(mut tape: Vec<u8>, records: usize) -> Vec<u8> {
     tape
 }
 
-/// How often each kind occurs, kind 1 first.
+/// How often each kind occurs, in the order of [`KINDS`].
 pub fn kinds(tape: &[u8]) -> [usize; KINDS.len()] {
     let mut counts = [0; KINDS.len()];
     for record in tape.chunks(RECORD) {
-        counts[usize::from(record[1]) - 1] += 1;
+        let row = KINDS.iter().position(|kind| kind.number == record[1]);
+        counts[row.expect("a kind")] += 1;
     }
     counts
 }

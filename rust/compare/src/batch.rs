@@ -124,7 +124,8 @@ fn sequence<S: Side>(
         let before = Before::of(pair.machine(), e.thread);
         let event = model::read(&record(e));
         let sights = event.map_or(0, |(thread, e)| {
-            sights::seen(pair.machine(), &past, thread, e)
+            let len = pair.memory().len();
+            sights::seen((pair.machine(), len), &past, thread, e)
         });
         let returns = event.map_or(None, |(thread, e)| {
             returns::place(pair.machine(), thread, e)

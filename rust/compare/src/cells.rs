@@ -80,6 +80,14 @@ const ASKS: [Cell; 5] = [
     (&[0, 13], "going back to a live transaction fails nothing"),
     (&[0, 13, 20], "going to T handles; it records nothing"),
 ];
+/// tlbie.
+const INVALIDATES: [Cell; 5] = [
+    OUTSIDE,
+    OUTSIDE,
+    (&[20], "in T it always fails, and is handled at once"),
+    (&[0, 21], "in S handling waits for tresume"),
+    (&[0], "FS is 1: nothing of its own is recorded again"),
+];
 const RECORDED: Cell = (&[0], "FS is 1: nothing is recorded again");
 
 /// tabortwc. and tabortdc.
@@ -91,7 +99,7 @@ const COMPARES: [Cell; 5] = [
     RECORDED,
 ];
 
-/// By kind, 1 first, what can be met in N, N with FS, T, S and S doomed.
+/// By kind, in the order of [`KINDS`], what can be met in N, N with FS, T, S and S doomed.
 const CELLS: [[Cell; 5]; KINDS.len()] = [
     // tbegin.
     [
@@ -194,7 +202,20 @@ const CELLS: [[Cell; 5]; KINDS.len()] = [
     ASKS,
     // mtmsrd
     ASKS,
+    // tlbie
+    INVALIDATES,
 ];
+
+/// The place of a kind among [`KINDS`], if it is one.
+pub fn place(kind: u8) -> Option<usize> {
+    KINDS.iter().position(|row| row.number == kind)
+}
+
+/// 0, which stands for all that are no kinds, and then the kinds, as the tables
+/// have them.
+pub fn kinds() -> impl Iterator<Item = u8> {
+    std::iter::once(0).chain(KINDS.iter().map(|row| row.number))
+}
 
 /// The name of a kind; 0 stands for all that are none.
 pub fn name(kind: u8) -> &'static str {
@@ -205,7 +226,7 @@ pub fn name(kind: u8) -> &'static str {
 /// all that are none.
 pub fn why_not(kind: u8, before: Before, answer: u8) -> Option<&'static str> {
     let cannot = |can: bool, why| if can { None } else { Some(why) };
-    let Some(row) = Kind::of(kind) else {
+    let Some(place) = place(kind) else {
         let can = before == Before::Nobody && matches!(answer, 1 | 2 | 8);
         return cannot(can, "what is no kind is refused by 1, 2 or 8");
     };
@@ -213,7 +234,7 @@ pub fn why_not(kind: u8, before: Before, answer: u8) -> Option<&'static str> {
         let can = matches!(answer, 1 | 2 | 3 | 9);
         return cannot(can, "without a state only 1, 2, 3 or 9 is given");
     };
-    let (met, why) = CELLS[usize::from(kind) - 1][state];
+    let (row, (met, why)) = (&KINDS[place], CELLS[place][state]);
     let ranges = row.operands.iter().any(|operand| operand.has_range());
     match answer {
         0 | 5 | 13 | 20 | 21 => cannot(met.contains(&answer), why),

@@ -3,7 +3,7 @@
 use std::fmt::Write;
 
 use model::Done;
-use naszeptan::{raw, Kind, KINDS};
+use naszeptan::{raw, KINDS};
 
 use crate::cells::{self, Before, Call, CALLS, CALL_ROWS, NUMBERS, SHOWN, STATES};
 use crate::editions;
@@ -60,7 +60,7 @@ impl Default for Counts {
 
 /// The place of a kind. Those that are none share the first.
 fn kind_place(kind: u8) -> usize {
-    Kind::of(kind).map_or(0, |_| kind.into())
+    cells::place(kind).map_or(0, |place| place + 1)
 }
 
 /// The place of a number. Those past 21 share the last, which no table allows.
@@ -183,7 +183,7 @@ impl Counts {
     }
 
     fn all_masks(&self) -> impl Iterator<Item = Row> + '_ {
-        let kinds = (0u8..).zip(&self.masks);
+        let kinds = cells::kinds().zip(&self.masks);
         let states = kinds.flat_map(|(kind, states)| {
             Before::ALL.map(|before| (kind, before, &states[before as usize]))
         });
@@ -202,7 +202,7 @@ impl Counts {
     }
 
     fn all_cells(&self) -> impl Iterator<Item = Row> + '_ {
-        let kinds = (0u8..).zip(&self.cells);
+        let kinds = cells::kinds().zip(&self.cells);
         let states = kinds.flat_map(|(kind, states)| {
             Before::ALL.map(|before| (kind, before, &states[before as usize]))
         });
@@ -249,7 +249,7 @@ impl Counts {
             write!(text, "{answer:>8}")?;
         }
         writeln!(text)?;
-        for (kind, states) in (0u8..).zip(&self.cells) {
+        for (kind, states) in cells::kinds().zip(&self.cells) {
             for before in Before::ALL {
                 let met = &states[before as usize];
                 let can = |answer| cells::why_not(kind, before, answer).is_none();
@@ -277,7 +277,7 @@ impl Counts {
             write!(text, "{:>9}", mask.name())?;
         }
         writeln!(text)?;
-        for (kind, states) in (0u8..).zip(&self.masks) {
+        for (kind, states) in cells::kinds().zip(&self.masks) {
             for before in Before::ALL {
                 let can = |mask| masks::why_not(kind, before, mask).is_none();
                 if !Mask::all().into_iter().skip(1).any(can) {

@@ -1,5 +1,5 @@
 //! Who can fail in an event, by its kind and by the state of its thread: read
-//! by hand from docs/RULES.md, H8 and A1 to A3, not from a run.
+//! by hand from docs/RULES.md, H8, A1 to A3 and A6, not from a run.
 
 use crate::cells::{self, Before};
 
@@ -76,6 +76,10 @@ pub fn why_not(kind: u8, before: Before, mask: Mask) -> Option<&'static str> {
             !mask.own || before == Before::S,
             "an overflow touches no other thread",
         ),
-        _ => Some("only loads and stores touch other threads"),
+        (26, _) => cannot(
+            !mask.own || before == Before::S,
+            "in T a tlbie touches no other thread",
+        ),
+        _ => Some("only loads, stores and tlbie touch other threads"),
     }
 }

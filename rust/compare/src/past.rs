@@ -73,10 +73,15 @@ impl Past {
         self.0[n].off
     }
 
+    /// Whether this thread's transaction loaded the line under ROT.
+    pub fn untracked(&self, n: usize, line: usize) -> bool {
+        self.0[n].loaded.contains(line)
+    }
+
     /// Whether this thread's transaction loaded the line under ROT, which then
     /// went off.
     pub fn loaded(&self, n: usize, line: usize) -> bool {
-        self.off(n) && self.0[n].loaded.contains(line)
+        self.off(n) && self.untracked(n, line)
     }
 }
 

@@ -4,7 +4,7 @@
 use std::collections::VecDeque;
 
 use model::gen::{self, Rng};
-use model::machine::{LINE, LOG, MAX_FOOTPRINT, MAX_LEVEL};
+use model::machine::{LINE, LOG, MAX_FOOTPRINT, MAX_LEVEL, PAGE};
 use model::{Event, Machine, Msr, State, Thread};
 use naszeptan::raw;
 
@@ -110,7 +110,7 @@ pub fn damaged(rng: &mut Rng, m: &Machine, len: usize) -> raw::Event {
     let small = rng.pick([1, 2, 3, 4, 16, 32, 128, 255, byte]);
     for _ in 0..rng.pick([1, 1, 2]) {
         match rng.below(8) {
-            0 => e.kind = rng.pick([0, 18, 19, 20, 255, byte]),
+            0 => e.kind = rng.pick([0, 18, 19, 20, 25, 26, 27, 255, byte]),
             1 => e.thread = rng.pick([4, 255, byte]),
             2 => e.x = small,
             3 => e.ra = small,
@@ -156,7 +156,7 @@ fn scene(rng: &mut Rng, m: &Machine, len: usize) -> Vec<(u8, Event)> {
     }
     let r = rng.one_in(4);
     let begin = Event::Tbegin { r };
-    match rng.below(9) {
+    match rng.below(11) {
         0 => full_log(&stage, begin),
         1 => full_footprint(rng, &stage, begin),
         2 => too_deep(m, me, begin),
@@ -165,6 +165,7 @@ fn scene(rng: &mut Rng, m: &Machine, len: usize) -> Vec<(u8, Event)> {
         5 => reclaimed(rng, &stage, begin),
         6 => shared(rng, &stage, count as u8),
         7 => interrupted(rng, &stage, begin),
+        8..=9 => invalidated(rng, &stage, begin),
         _ => overwritten(rng, &stage, begin),
     }
 }
@@ -291,13 +292,14 @@ fn reclaimed(rng: &mut Rng, stage: &Stage, begin: Event) -> Vec<(u8, Event)> {
     )
 }
 
-/// All threads read one line, and then one of them stores to it, so that all
-/// others fail in one event: the storer as it stood, or in T, in S or doomed,
-/// with the line in its own sets or not.
+/// All threads read one line, and then one of them stores to it or does a tlbie
+/// of its page, so that all others fail in one event: that one as it stood, or in
+/// T, in S or doomed, with the line in its own sets or not.
 fn shared(rng: &mut Rng, stage: &Stage, count: u8) -> Vec<(u8, Event)> {
     let index = stage.index(0, rng.below(LINE));
+    let tlbie = rng.one_in(3);
     // Into T from any state but that of a full transaction.
-    let (pr, tm) = (rng.flag(), true);
+    let (pr, tm) = (!tlbie && rng.flag(), true);
     let enter = [
         Event::Host { pr, tm },
         Event::Tsr { l: true },
@@ -306,13 +308,18 @@ fn shared(rng: &mut Rng, stage: &Stage, count: u8) -> Vec<(u8, Event)> {
     let load = Event::Ld { rt: 6, index };
     let (suspend, abort) = (Event::Tsr { l: false }, Event::Tabort { ra: 0 });
     let mut mine = match rng.below(4) {
-        0 => Vec::new(),
+        0 => Vec::from_iter(tlbie.then_some(Event::Host { pr, tm })),
         _ => enter.to_vec(),
     };
     mine.extend(rng.flag().then_some(load));
     let ways: [&[Event]; 4] = [&[], &[suspend], &[suspend], &[suspend, abort]];
     mine.extend(rng.pick(ways));
-    mine.push(Event::Std { ra: 5, index });
+    mine.push(match tlbie {
+        true => Event::Tlbie {
+            page: page_of(index),
+        },
+        false => Event::Std { ra: 5, index },
+    });
     let others = (0..count).filter(|&thread| thread != stage.me);
     let others = others.flat_map(|thread| {
         enter
@@ -323,6 +330,42 @@ fn shared(rng: &mut Rng, stage: &Stage, count: u8) -> Vec<(u8, Event)> {
     others
         .chain(mine.into_iter().map(|e| (stage.me, e)))
         .collect()
+}
+
+/// The page of a doubleword.
+fn page_of(index: u32) -> u32 {
+    index / (PAGE * LINE) as u32
+}
+
+/// A transaction with one line, mostly at the border of a page, loaded or stored
+/// to, and a tlbie of its page or the one beside it: by its own thread, in T, in S
+/// or doomed, or by another.
+fn invalidated(rng: &mut Rng, stage: &Stage, begin: Event) -> Vec<(u8, Event)> {
+    let lines = (stage.len / LINE).max(1);
+    let border = PAGE * (1 + rng.below(lines.div_ceil(PAGE)));
+    let line = match rng.one_in(4) {
+        true => stage.first,
+        false => (border - rng.below(2)).min(lines - 1),
+    };
+    let index = (line * LINE + rng.below(LINE)) as u32;
+    let page = page_of(index);
+    let beside = rng.pick([page + 1, page.saturating_sub(1)]);
+    let (me, by) = (stage.me, rng.pick([stage.me, stage.other]));
+    let (pr, tm) = (false, true);
+    let access = match rng.flag() {
+        true => Event::Ld { rt: 6, index },
+        false => Event::Std { ra: 2, index },
+    };
+    let mut scene = vec![(by, Event::Host { pr, tm }), (me, begin), (me, access)];
+    if !rng.one_in(3) {
+        scene.push((me, Event::Tsr { l: false }));
+    }
+    let first = rng.pick([page, beside, beside]);
+    for page in [first, page, page] {
+        scene.push((by, Event::Tlbie { page }));
+    }
+    scene.push((me, Event::Tsr { l: true }));
+    scene
 }
 
 /// A transaction that an interrupt suspends; the handler looks where it was, and

@@ -2,7 +2,7 @@
 //! answer. Each is told from the machine before the event, some from a
 //! transaction's past too, and counts if the event was done.
 
-use model::machine::{LINE, LOG, MAX_FOOTPRINT, MAX_LEVEL};
+use model::machine::{LINE, LOG, MAX_FOOTPRINT, MAX_LEVEL, PAGE};
 use model::{Event, Machine, Msr, State, Thread};
 
 use crate::past::Past;
@@ -10,6 +10,8 @@ use crate::past::Past;
 /// An event before it is done.
 pub struct View<'a> {
     machine: &'a Machine,
+    /// The memory's length.
+    len: usize,
     past: &'a Past,
     me: usize,
     thread: &'a Thread,
@@ -20,7 +22,7 @@ pub struct View<'a> {
 type Sight = (u8, &'static str, fn(&View) -> bool);
 
 /// How many sights there are.
-pub const SIGHTS: usize = 86;
+pub const SIGHTS: usize = 108;
 
 /// All of them.
 #[rustfmt::skip]
@@ -111,6 +113,28 @@ pub const ALL: [Sight; SIGHTS] = [
     (19, "mtmsrd back to a transaction with a log", |v| v.resumes() && v.thread.count > 0),
     (19, "mtmsrd handles, with registers to bring back", |v| v.resumes() && v.thread.doomed && v.thread.live != v.thread.checkpoint),
     (19, "mtmsrd at 2^64 - 4", |v| !v.fails_asking() && v.thread.nia == !3),
+    (26, "tlbie in T of a page that others have", |v| v.state(State::T) && v.met().count() > 0),
+    (26, "tlbie fails one in T", |v| v.invalidates() && v.met().any(|(_, t)| t.state == State::T)),
+    (26, "tlbie fails one in S", |v| v.invalidates() && v.met().any(|(_, t)| t.state == State::S)),
+    (26, "tlbie fails two or more", |v| v.invalidates() && v.met().count() > 1),
+    (26, "tlbie fails one that only loaded", |v| v.invalidates() && v.met().any(|(_, t)| v.of_page(t).all(|l| !t.writes.contains(l)))),
+    (26, "tlbie fails one by the page's first line alone", |v| v.invalidates() && v.met().any(|(_, t)| v.of_page(t).eq([v.first()]))),
+    (26, "tlbie fails one by the page's last line alone", |v| v.invalidates() && v.met().any(|(_, t)| v.of_page(t).eq([v.first() + PAGE - 1]))),
+    (26, "tlbie spares the last line of the page before", |v| v.invalidates() && v.spared().any(|(_, t)| v.first() > 0 && has(t, v.first() - 1))),
+    (26, "tlbie spares the first line of the page behind", |v| v.invalidates() && v.spared().any(|(_, t)| v.first() + PAGE < 256 && has(t, v.first() + PAGE))),
+    (26, "tlbie spares a load under ROT", |v| v.invalidates() && v.spared().any(|(n, _)| v.page().any(|l| v.past.untracked(n, l)))),
+    (26, "tlbie fails a ROT by its store", |v| v.invalidates() && v.met().any(|(_, t)| t.rot())),
+    (26, "tlbie meets no one of those that live", |v| v.invalidates() && v.met().count() == 0 && v.spared().count() > 0),
+    (26, "tlbie in S fails its own", |v| v.state(State::S) && v.meets_itself()),
+    (26, "tlbie in S fails its own and another", |v| v.state(State::S) && v.meets_itself() && v.met().count() > 0),
+    (26, "tlbie in S fails its own that only loaded", |v| v.state(State::S) && v.meets_itself() && v.of_page(v.thread).all(|l| !v.thread.writes.contains(l))),
+    (26, "tlbie in S spares its own", |v| v.state(State::S) && v.thread.is_live() && v.thread.footprint() > 0 && !v.meets_itself()),
+    (26, "tlbie in S spares its own line beside the page", |v| v.state(State::S) && !v.meets_itself() && (v.first() > 0 && has(v.thread, v.first() - 1) || v.first() + PAGE < 256 && has(v.thread, v.first() + PAGE))),
+    (26, "tlbie of a doomed thread", |v| v.thread.doomed),
+    (26, "tlbie of a doomed thread fails another", |v| v.thread.doomed && v.met().count() > 0),
+    (26, "tlbie of a page that ends past the memory", |v| v.invalidates() && (v.first() + PAGE) * LINE > v.len),
+    (26, "tlbie fails one by a page that ends past the memory", |v| v.invalidates() && (v.first() + PAGE) * LINE > v.len && v.met().count() > 0),
+    (26, "tlbie at 2^64 - 4", |v| v.invalidates() && v.thread.nia == !3),
 ];
 
 /// The bits of SRR1 by which rfid asks.
@@ -118,8 +142,10 @@ const ASKING: u64 = 0x7_0000_4000;
 
 const _: () = assert!(SIGHTS <= 128, "one bit each");
 
-/// The sights of this event, one bit each.
-pub fn seen(machine: &Machine, past: &Past, thread: u8, event: Event) -> u128 {
+/// The sights of this event on a machine with a memory of this length, one bit
+/// each.
+pub fn seen(lent: (&Machine, usize), past: &Past, thread: u8, event: Event) -> u128 {
+    let (machine, len) = lent;
     let me = usize::from(thread);
     if me >= machine.count.min(machine.threads.len()) {
         return 0;
@@ -127,6 +153,7 @@ pub fn seen(machine: &Machine, past: &Past, thread: u8, event: Event) -> u128 {
     let thread = &machine.threads[me];
     let view = View {
         machine,
+        len,
         past,
         me,
         thread,
@@ -261,6 +288,48 @@ impl View<'_> {
         let store = matches!(self.event, Event::Std { .. });
         let line = self.line();
         n != self.me && t.is_live() && (t.writes.contains(line) || store && t.reads.contains(line))
+    }
+
+    /// Whether a tlbie that is done is not disallowed.
+    fn invalidates(&self) -> bool {
+        !self.state(State::T)
+    }
+
+    /// The first line of a tlbie's page; of one that is in no memory, none.
+    fn first(&self) -> usize {
+        match self.event {
+            Event::Tlbie { page } => (page as usize).min(8) * PAGE,
+            _ => 0,
+        }
+    }
+
+    /// The lines of a tlbie's page that are in some memory.
+    fn page(&self) -> impl Iterator<Item = usize> {
+        let first = self.first();
+        (first..first + PAGE).filter(|&line| line < 256)
+    }
+
+    /// The lines of the page in a thread's sets, in order.
+    fn of_page<'t>(&self, t: &'t Thread) -> impl Iterator<Item = usize> + 't {
+        let first = self.first();
+        (first..first + PAGE).filter(move |&line| line < 256 && has(t, line))
+    }
+
+    /// The other threads with a live transaction that has a line of the page.
+    fn met(&self) -> impl Iterator<Item = (usize, &Thread)> {
+        let live = self.others().filter(|(_, t)| t.is_live());
+        live.filter(|(_, t)| self.of_page(t).next().is_some())
+    }
+
+    /// The other threads with a live transaction that has none.
+    fn spared(&self) -> impl Iterator<Item = (usize, &Thread)> {
+        let live = self.others().filter(|(_, t)| t.is_live());
+        live.filter(|(_, t)| self.of_page(t).next().is_none())
+    }
+
+    /// Whether the thread's own live transaction has a line of the page.
+    fn meets_itself(&self) -> bool {
+        self.thread.is_live() && self.of_page(self.thread).next().is_some()
     }
 
     /// The other threads' records.

@@ -140,8 +140,8 @@ fn another_thread_s_failure_not_told_is_found() {
     let (case, text) = shrunk(&TellsItself);
     let last = case.records.last().expect("a record");
     assert!(
-        matches!(last[1], 12 | 13),
-        "only an access fails others\n{case}"
+        matches!(last[1], 12 | 13 | 26),
+        "only an access or a tlbie fails others\n{case}"
     );
     assert!(text.contains("failed: model "), "{text}");
 }
@@ -360,12 +360,20 @@ const BAD_IN_S: Refuses = Refuses(
     13,
 );
 /// rfid and mtmsrd are taken for TM instructions.
-const TM_INSTRUCTIONS: Refuses = Refuses(|control, e| e.kind >= 18 && control.tm == 0, 11);
+const TM_INSTRUCTIONS: Refuses = Refuses(
+    |control, e| matches!(e.kind, 18 | 19) && control.tm == 0,
+    11,
+);
 /// In T they are a Bad Thing.
 const BAD_IN_T: Refuses = Refuses(
-    |control, e| e.kind >= 18 && control.state == 1 && control.pr == 0,
+    |control, e| matches!(e.kind, 18 | 19) && control.state == 1 && control.pr == 0,
     13,
 );
+
+/// tlbie is taken for a TM instruction.
+const TLBIE_OF_TM: Refuses = Refuses(|control, e| e.kind == 26 && control.tm == 0, 11);
+/// In T it is a Bad Thing.
+const TLBIE_BAD: Refuses = Refuses(|control, e| e.kind == 26 && control.state == 1, 13);
 
 #[test]
 fn wrong_refusals_of_the_system_are_found() {
@@ -374,6 +382,8 @@ fn wrong_refusals_of_the_system_are_found() {
         (&BAD_IN_S, [10, 10]),
         (&TM_INSTRUCTIONS, [18, 19]),
         (&BAD_IN_T, [18, 19]),
+        (&TLBIE_OF_TM, [26, 26]),
+        (&TLBIE_BAD, [26, 26]),
     ] {
         let (case, text) = shrunk(side);
         let kind = kinds(&case).pop().expect("a record");
@@ -381,6 +391,156 @@ fn wrong_refusals_of_the_system_are_found() {
         let answer = format!("proved {}", side.1);
         assert!(text.contains(&answer), "{text}");
     }
+}
+
+/// A side that differs in what becomes of a tlbie that is done in N or S: what it
+/// makes of the machine from before and of the right outcome.
+struct Invalidates(fn(&raw::Machine, raw::Event, &mut Done, &mut raw::Machine));
+
+impl Side for Invalidates {
+    fn step(&self, m: &mut raw::Machine, memory: &mut [u64], e: raw::Event) -> Done {
+        let before = *m;
+        let mut done = Archive.step(m, memory, e);
+        if e.kind == 26 && matches!(done.answer, 0 | 21) {
+            self.0(&before, e, &mut done, m);
+        }
+        done
+    }
+}
+
+/// The lines of this page in a set.
+fn in_page(lines: &raw::Lines, page: u32) -> bool {
+    lines.iter().any(|line| u32::from(line) / 32 == page)
+}
+
+/// TFIAR is told to be exact for its own.
+const EXACT: Invalidates = Invalidates(|_, e, done, after| {
+    if done.answer == 21 {
+        after.threads[usize::from(e.thread)].control.texasr |= texasr::EXACT;
+    }
+});
+
+/// Its own is recorded as a conflict of its own.
+const SELF_INDUCED: Invalidates = Invalidates(|_, e, done, after| {
+    if done.answer == 21 {
+        after.threads[usize::from(e.thread)].control.texasr ^= 0x0012_0000 << 32;
+    }
+});
+
+/// Its own is spared.
+const SPARES_ITSELF: Invalidates = Invalidates(|before, e, done, after| {
+    if done.answer == 21 {
+        let me = usize::from(e.thread);
+        let nia = after.threads[me].control.nia;
+        after.threads[me] = before.threads[me];
+        after.threads[me].control.nia = nia;
+        done.answer = 0;
+        done.failed &= !(1 << me);
+    }
+});
+
+/// Others that only loaded of the page are spared, as by a load.
+const SPARES_READERS: Invalidates = Invalidates(|before, e, done, after| {
+    for (n, old) in before.threads.iter().enumerate() {
+        let wrote = in_page(&old.transaction.writes, e.index);
+        if n != usize::from(e.thread) && done.failed >> n & 1 != 0 && !wrote {
+            after.threads[n] = *old;
+            done.failed &= !(1 << n);
+        }
+    }
+});
+
+/// Its own is handled in S, and the answer is 20.
+const HANDLES_IN_S: Invalidates = Invalidates(|_, e, done, after| {
+    if done.answer == 21 {
+        handle(&mut after.threads[usize::from(e.thread)]);
+        done.answer = 20;
+    }
+});
+
+/// Others are handled in S.
+const HANDLES_OTHERS: Invalidates = Invalidates(|before, e, done, after| {
+    for n in (0..4).filter(|&n| n != usize::from(e.thread)) {
+        if done.failed >> n & 1 != 0 && before.threads[n].control.state == 2 {
+            handle(&mut after.threads[n]);
+        }
+    }
+});
+
+/// Handling, by rule F6.
+fn handle(t: &mut raw::Thread) {
+    t.live = t.checkpoint;
+    t.cr0 = 0b1010;
+    t.control.nia = t.control.tfhar;
+    t.control.state = 0;
+    t.control.doomed = 0;
+}
+
+#[test]
+fn wrong_invalidations_are_found() {
+    for (side, field) in [
+        (&EXACT, "TEXASR"),
+        (&SELF_INDUCED, "TEXASR"),
+        (&SPARES_ITSELF, "answer: model 21, proved 0"),
+        (&SPARES_READERS, "failed: model"),
+        (&HANDLES_IN_S, "answer: model 21, proved 20"),
+        (&HANDLES_OTHERS, "state"),
+    ] {
+        let (case, text) = shrunk(side);
+        assert_eq!(kinds(&case).last(), Some(&26), "{text}");
+        assert!(text.contains(field), "{text}");
+    }
+}
+
+/// Does a tlbie of the page behind, too.
+struct HitsNeighbour;
+
+impl Side for HitsNeighbour {
+    fn step(&self, m: &mut raw::Machine, memory: &mut [u64], e: raw::Event) -> Done {
+        let me = usize::from(e.thread);
+        let nia = m.threads.get(me).map(|t| t.control.nia);
+        let done = Archive.step(m, memory, e);
+        let (26, 0 | 21, Some(nia)) = (e.kind, done.answer, nia) else {
+            return done;
+        };
+        let mut again = *m;
+        again.threads[me].control.nia = nia;
+        let index = e.index + 1;
+        let more = Archive.step(&mut again, memory, raw::Event { index, ..e });
+        if !model::answer::is_done(more.answer) {
+            return done;
+        }
+        *m = again;
+        Done {
+            answer: done.answer.max(more.answer),
+            failed: done.failed | more.failed,
+        }
+    }
+}
+
+/// Takes a page that ends past the memory for one that is not in it.
+struct WantsWholePages;
+
+impl Side for WantsWholePages {
+    fn step(&self, m: &mut raw::Machine, memory: &mut [u64], e: raw::Event) -> Done {
+        let (before, len) = (*m, memory.len() as u64);
+        let done = Archive.step(m, memory, e);
+        let ends_past = 512 * (u64::from(e.index) + 1) > len;
+        if e.kind != 26 || !ends_past || !model::answer::is_done(done.answer) {
+            return done;
+        }
+        *m = before;
+        Done::refused(4)
+    }
+}
+
+#[test]
+fn wrong_pages_are_found() {
+    let (case, text) = shrunk(&HitsNeighbour);
+    assert_eq!(kinds(&case).last(), Some(&26), "{text}");
+    let (case, text) = shrunk(&WantsWholePages);
+    assert_eq!(kinds(&case).last(), Some(&26), "{text}");
+    assert!(text.contains("proved 4"), "{text}");
 }
 
 /// Has one level less: a tbegin. overflows at the last level but one.
@@ -745,6 +905,9 @@ fn what_was_not_met_is_told() {
         "tbegin., T, 20",
         "std, S, 21",
         "std, S, failed: and 3",
+        "tlbie, S, failed: and 3",
+        "tlbie, S, doomed, 4",
+        "tlbie spares a load under ROT",
         "tsr., S, doomed, failed: itself",
         "rfid, S, TM = 0, doomed, asks T,1, PR 1: 20",
         "mtmsrd, S, TM = 0, asks N,0, PR 0: 0",

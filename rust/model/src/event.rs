@@ -1,4 +1,4 @@
-//! Rules E1 to E19: a case for each kind.
+//! Rules E1 to E19 and E26: a case for each kind.
 
 /// One event. Operands take any value of their width; what is out of range is
 /// refused when the event is done.
@@ -67,10 +67,13 @@ pub enum Event {
         tm: bool,
         pr: bool,
     },
+    Tlbie {
+        page: u32,
+    },
 }
 
 impl Event {
-    /// The number of the event in rules E1 to E19.
+    /// The number of the event in rules E1 to E19 and E26.
     #[inline]
     pub fn kind(&self) -> u8 {
         match self {
@@ -93,6 +96,7 @@ impl Event {
             Event::Host { .. } => 17,
             Event::Rfid => 18,
             Event::Mtmsrd { .. } => 19,
+            Event::Tlbie { .. } => 26,
         }
     }
 }

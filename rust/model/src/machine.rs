@@ -1,7 +1,9 @@
-//! Rules M1 to M15, the state, and V1 to V14, what makes it valid.
+//! Rules M1 to M16, the state, and V1 to V14, what makes it valid.
 
 /// Doublewords in a line.
 pub const LINE: usize = 16;
+/// Lines in a page (rule M16).
+pub const PAGE: usize = 32;
 /// The longest memory, in doublewords.
 pub const MAX_MEMORY: usize = 4096;
 /// Thread records in a machine.
@@ -158,6 +160,15 @@ impl LineSet {
                 _ => u64::MAX,
             }
         }))
+    }
+
+    /// The lines of a page (rule M16); none past the last of 256.
+    pub fn page(page: usize) -> LineSet {
+        let mut lines = LineSet::EMPTY;
+        for line in (0..256).filter(|line| line / PAGE == page) {
+            lines.insert(line);
+        }
+        lines
     }
 
     #[inline]

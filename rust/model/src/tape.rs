@@ -7,8 +7,10 @@ use crate::{answer, Event};
 pub const RECORD: usize = 16;
 /// A record's first byte.
 pub const MARK: u8 = 0xE3;
-/// How many kinds there are; the last is of this number.
-pub const KINDS: usize = 19;
+/// The kinds, in order. 20 to 25 are none.
+pub const KINDS: [u8; 20] = [
+    1, 2, 3, 4, 5, 6, 7, 8, 9, 10, 11, 12, 13, 14, 15, 16, 17, 18, 19, 26,
+];
 
 /// The fields of a record, whatever its edition: where each of them stands, and
 /// what stands beside them, is the edition's own.
@@ -24,9 +26,10 @@ pub struct Fields {
     pub si: u16,
 }
 
-/// For each kind, the bits of a record that must be 0, the record taken as a
-/// number with its first byte the highest.
-static MUST_BE_ZERO: [u128; KINDS + 1] = {
+/// For each kind, at its own number, the bits of a record that must be 0, the
+/// record taken as a number with its first byte the highest. Of a number that is
+/// no kind they are all of it.
+static MUST_BE_ZERO: [u128; 27] = {
     /// Where a byte of the record may have these bits.
     const fn at(byte: u32, bits: u128) -> u128 {
         bits << (8 * (15 - byte))
@@ -40,7 +43,6 @@ static MUST_BE_ZERO: [u128; KINDS + 1] = {
     const INDEX: u128 = at(11, 0xFFFF_FFFF);
     const SI: u128 = at(13, 0xFFFF);
     let used = [
-        0,           // no kind 0
         ONE_FLAG,    // tbegin. R
         ONE_FLAG,    // tend. A
         RA,          // tabort.
@@ -60,14 +62,15 @@ static MUST_BE_ZERO: [u128; KINDS + 1] = {
         TWO_FLAGS,   // host
         0,           // rfid
         FOUR_FLAGS,  // mtmsrd
+        INDEX,       // tlbie page in INDEX
     ];
     // First byte, kind and thread are read by themselves.
     let head = at(2, 0xFF_FFFF);
-    let mut table = [0; KINDS + 1];
-    let mut kind = 0;
-    while kind <= KINDS {
-        table[kind] = !(head | used[kind]);
-        kind += 1;
+    let mut table = [u128::MAX; 27];
+    let mut row = 0;
+    while row < KINDS.len() {
+        table[KINDS[row] as usize] = !(head | used[row]);
+        row += 1;
     }
     table
 };
@@ -95,7 +98,7 @@ pub(crate) fn judge(record: &[u8; RECORD]) -> Result<(), u8> {
     if mark != MARK {
         return Err(answer::MARK);
     }
-    if !matches!(kind, 1..=19) {
+    if !matches!(kind, 1..=19 | 26) {
         return Err(answer::KIND);
     }
     if u128::from_be_bytes(*record) & MUST_BE_ZERO[usize::from(kind)] != 0 {
@@ -171,6 +174,7 @@ impl Fields {
             Event::Mtmsrd { ts, tm, pr } => {
                 f.flags = ts & 3 | u8::from(tm) << 2 | u8::from(pr) << 3;
             }
+            Event::Tlbie { page } => f.index = page,
             Event::Trechkpt | Event::Disallowed | Event::Interrupt | Event::Rfid => {}
         }
         f
@@ -208,6 +212,7 @@ impl Fields {
                 tm: self.flags & 4 != 0,
                 pr: self.flags & 8 != 0,
             },
+            26 => Event::Tlbie { page: index },
             _ => return None,
         })
     }

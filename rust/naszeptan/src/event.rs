@@ -1,4 +1,4 @@
-//! The nineteen events.
+//! The twenty events.
 
 use std::fmt;
 
@@ -13,7 +13,7 @@ use crate::{Answer, Edition, Kind};
 ///
 /// An event is displayed as an assembler would have it. A register is `r` and
 /// its number, a CR field `cr` and its number; flags are named; TO, SPR and
-/// the index of a doubleword are plain numbers, and SI is signed. Where RA = 0
+/// the index of a doubleword or a page are plain numbers, and SI is signed. Where RA = 0
 /// means the value 0 and not register 0 (tabort., treclaim. and addi) it is
 /// `0`. No two events look alike.
 ///
@@ -28,6 +28,7 @@ use crate::{Answer, Edition, Kind};
 ///     Event::Mtmsrd { ts: 2, tm: true, pr: false }.to_string(),
 ///     "mtmsrd TS=10, TM=1, PR=0"
 /// );
+/// assert_eq!(Event::Tlbie { page: 3 }.to_string(), "tlbie 3");
 /// assert_eq!(Event::Std { ra: 3, index: 17 }.kind(), 13);
 /// ```
 #[derive(Clone, Copy, Debug, PartialEq, Eq, Hash)]
@@ -150,10 +151,18 @@ pub enum Event {
         /// PR.
         pr: bool,
     },
+    /// 26: invalidates the translation of a page, 32 lines; privileged. Outside
+    /// T each live transaction with a line of the page in its sets fails, the
+    /// thread's own suspended one too; in T it is disallowed.
+    Tlbie {
+        /// The page's number. Its first doubleword, 512 times the number, must
+        /// be in memory.
+        page: u32,
+    },
 }
 
 impl Event {
-    /// The number of the event's kind, 1 to 19. [`Kind::of`] gives its row.
+    /// The number of the event's kind, 1 to 19 or 26. [`Kind::of`] gives its row.
     pub const fn kind(self) -> u8 {
         self.to_raw(0).kind
     }
@@ -216,6 +225,7 @@ impl Event {
                 let flags = (ts & 3) + 4 * tm as u8 + 8 * pr as u8;
                 (19, 0, 0, 0, flags, 0, 0)
             }
+            Event::Tlbie { page } => (26, 0, 0, 0, 0, page, 0),
         };
         raw::Event {
             kind,
@@ -273,6 +283,7 @@ impl Event {
                 tm: flags & 4 != 0,
                 pr: flags & 8 != 0,
             },
+            26 => Event::Tlbie { page: index },
             _ => return Err(Answer::NoKind),
         };
         Ok((thread, event))

@@ -4,11 +4,11 @@ use std::fmt;
 use std::mem::take;
 
 use crate::raw;
-use Operand::{Bf, Flag, Index, Ra, RaOrZero, Rb, Rt, RtInRa, Si, Spr, To, Ts};
+use Operand::{Bf, Flag, Index, Page, Ra, RaOrZero, Rb, Rt, RtInRa, Si, Spr, To, Ts};
 
 /// What all events of one kind have in common: a row of the table in section E
-/// of docs/RULES.md. The kind's number is the row's place in [`KINDS`], counted
-/// from 1.
+/// of docs/RULES.md. [`Kind::of`] finds the row of a number: 20 to 25 are no
+/// kinds, so that the row's place in [`KINDS`] does not tell it.
 ///
 /// ```
 /// use naszeptan::{Kind, Operand, KINDS};
@@ -17,11 +17,14 @@ use Operand::{Bf, Flag, Index, Ra, RaOrZero, Rb, Rt, RtInRa, Si, Spr, To, Ts};
 /// assert_eq!(std.name, "std");
 /// assert_eq!(std.operands, [Operand::Ra, Operand::Index]);
 /// assert!(!std.tm && !std.privileged);
-/// assert_eq!(Kind::of(0), None);
-/// assert_eq!(KINDS.len(), 19);
+/// assert_eq!(Kind::of(26).unwrap().name, "tlbie");
+/// assert_eq!((Kind::of(0), Kind::of(20)), (None, None));
+/// assert_eq!(KINDS.len(), 20);
 /// ```
 #[derive(Clone, Copy, Debug, PartialEq, Eq, Hash)]
 pub struct Kind {
+    /// The number, by which a record names the kind.
+    pub number: u8,
     /// The name, with which a displayed event begins.
     pub name: &'static str,
     /// The operands, in the order in which they are displayed. They are all
@@ -63,37 +66,42 @@ pub enum Operand {
     Rb,
     /// The index of a doubleword.
     Index,
+    /// The number of a page, in the index. It is in range where the page's first
+    /// doubleword, 512 times the number, is in memory.
+    Page,
     /// SI, which is signed.
     Si,
 }
 
-/// The row of each kind; that of kind 1 is the first.
-pub const KINDS: [Kind; 19] = [
-    tm("tbegin.", &[Flag("R", 1)]),
-    tm("tend.", &[Flag("A", 1)]),
-    tm("tabort.", &[RaOrZero]),
-    tm("tabortwc.", &[To, Ra, Rb]),
-    tm("tabortdc.", &[To, Ra, Rb]),
-    tm("tsr.", &[Flag("L", 1)]),
-    tm("tcheck", &[Bf]),
-    privileged(tm("treclaim.", &[RaOrZero])),
-    privileged(tm("trechkpt.", &[])),
+/// The row of each kind, by rising number. There is none for 20 to 25.
+pub const KINDS: [Kind; 20] = [
+    tm(1, "tbegin.", &[Flag("R", 1)]),
+    tm(2, "tend.", &[Flag("A", 1)]),
+    tm(3, "tabort.", &[RaOrZero]),
+    tm(4, "tabortwc.", &[To, Ra, Rb]),
+    tm(5, "tabortdc.", &[To, Ra, Rb]),
+    tm(6, "tsr.", &[Flag("L", 1)]),
+    tm(7, "tcheck", &[Bf]),
+    privileged(tm(8, "treclaim.", &[RaOrZero])),
+    privileged(tm(9, "trechkpt.", &[])),
     // Each is one or the other, by its SPR.
-    privileged(tm("mtspr", &[Spr, Ra])),
-    privileged(tm("mfspr", &[RtInRa, Spr])),
-    other("ld", &[Rt, Index]),
-    other("std", &[Ra, Index]),
-    other("addi", &[Rt, RaOrZero, Si]),
-    other("disallowed", &[]),
-    other("interrupt", &[]),
-    other("host", &[Flag("PR", 1), Flag("TM", 2)]),
-    privileged(other("rfid", &[])),
-    privileged(other("mtmsrd", &[Ts, Flag("TM", 4), Flag("PR", 8)])),
+    privileged(tm(10, "mtspr", &[Spr, Ra])),
+    privileged(tm(11, "mfspr", &[RtInRa, Spr])),
+    other(12, "ld", &[Rt, Index]),
+    other(13, "std", &[Ra, Index]),
+    other(14, "addi", &[Rt, RaOrZero, Si]),
+    other(15, "disallowed", &[]),
+    other(16, "interrupt", &[]),
+    other(17, "host", &[Flag("PR", 1), Flag("TM", 2)]),
+    privileged(other(18, "rfid", &[])),
+    privileged(other(19, "mtmsrd", &[Ts, Flag("TM", 4), Flag("PR", 8)])),
+    privileged(other(26, "tlbie", &[Page])),
 ];
 
 /// Neither a TM instruction nor privileged.
-const fn other(name: &'static str, operands: &'static [Operand]) -> Kind {
+const fn other(number: u8, name: &'static str, operands: &'static [Operand]) -> Kind {
     Kind {
+        number,
         name,
         operands,
         tm: false,
@@ -101,10 +109,10 @@ const fn other(name: &'static str, operands: &'static [Operand]) -> Kind {
     }
 }
 
-const fn tm(name: &'static str, operands: &'static [Operand]) -> Kind {
+const fn tm(number: u8, name: &'static str, operands: &'static [Operand]) -> Kind {
     Kind {
         tm: true,
-        ..other(name, operands)
+        ..other(number, name, operands)
     }
 }
 
@@ -118,7 +126,7 @@ const fn privileged(kind: Kind) -> Kind {
 impl Kind {
     /// The row of the kind with this number, if there is one.
     pub fn of(number: u8) -> Option<&'static Kind> {
-        KINDS.get(usize::from(number).checked_sub(1)?)
+        KINDS.iter().find(|kind| kind.number == number)
     }
 
     /// Whether the fields hold the kind's operands and nothing else.
@@ -147,7 +155,7 @@ impl Kind {
                 Bf => write!(f, "cr{value}"),
                 RaOrZero if value == 0 => f.write_str("0"),
                 Rt | RtInRa | Ra | RaOrZero | Rb => write!(f, "r{value}"),
-                To | Spr | Index => write!(f, "{value}"),
+                To | Spr | Index | Page => write!(f, "{value}"),
                 Si => write!(f, "{}", value as i16),
             }?;
         }
@@ -177,7 +185,7 @@ impl Operand {
             To | Spr | Bf | Rt => take(&mut fields.x).into(),
             RtInRa | Ra | RaOrZero => take(&mut fields.ra).into(),
             Rb => take(&mut fields.rb).into(),
-            Index => take(&mut fields.index),
+            Index | Page => take(&mut fields.index),
             Si => take(&mut fields.si).into(),
         }
     }

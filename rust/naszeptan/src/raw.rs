@@ -63,7 +63,7 @@ pub const SPR_TEXASRU: u8 = 131;
 /// The version of the rules that this crate was written for: the model's
 /// version in the upper 16 bits, the change requests that have landed in the
 /// lower. [`version`] gives the archive's.
-pub const VERSION: u32 = 0x0004_0008;
+pub const VERSION: u32 = 0x0004_0009;
 
 /// The registers that a checkpoint keeps.
 #[repr(C)]
@@ -188,8 +188,8 @@ pub struct Machine {
     pub threads: [Thread; THREADS],
 }
 
-/// One event and the thread that executes it. `kind`, 1 to 19, says what the
-/// other fields mean; a field that its kind does not use must be 0.
+/// One event and the thread that executes it. `kind`, 1 to 19 or 26, says what
+/// the other fields mean; a field that its kind does not use must be 0.
 #[repr(C)]
 #[derive(Clone, Copy, Debug, Default, PartialEq, Eq, Hash)]
 pub struct Event {
@@ -205,7 +205,7 @@ pub struct Event {
     pub rb: u8,
     /// R, A or L; for kind 17, PR + 2 * TM; for kind 19, TS + 4 * TM + 8 * PR.
     pub flags: u8,
-    /// The doubleword of a load or store.
+    /// The doubleword of a load or store; for kind 26, the page.
     pub index: u32,
     /// SI, as its 16 bits.
     pub si: u16,

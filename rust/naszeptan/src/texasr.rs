@@ -46,7 +46,8 @@ pub enum Cause {
     NonTransactionalConflict,
     /// Bit 13: another thread's access in a transaction.
     TransactionConflict,
-    /// Bit 14: a translation was invalidated. No event of the model does it.
+    /// Bit 14: a translation was invalidated: a tlbie of a page of which a line
+    /// was in the sets, another thread's or the thread's own in Suspended state.
     TranslationInvalidation,
     /// Bit 15: a condition of the processor's own design. Only of hardware:
     /// rule X2 has no such bit (Power ISA, 8.4.2).

@@ -1,4 +1,4 @@
-//! The bench values of docs/RULES.md, K1 to K10 and K14 to K18, through the
+//! The bench values of docs/RULES.md, K1 to K10 and K14 to K26, through the
 //! archive.
 
 use naszeptan::{Answer, Event, Machine, State, LEVELS, LINE, MEMORY};
@@ -240,5 +240,94 @@ fn k18_s_is_asked_for_n() {
         desk.step(0, mtmsrd(8), answer);
         let (state, is_pr, is_tm, _) = desk.at();
         assert_eq!((state, is_pr, is_tm), (State::S, pr, tm));
+    }
+}
+
+const fn ld(index: u32) -> Event {
+    Event::Ld { rt: 4, index }
+}
+
+const fn tlbie(page: u32) -> Event {
+    Event::Tlbie { page }
+}
+
+impl Desk {
+    /// The fresh machine, on which one thread is privileged and thread 0 then
+    /// does these.
+    fn with_pages(privileged: u8, events: &[Event]) -> Desk {
+        let (machine, memory) = (Machine::fresh(), vec![0; MEMORY]);
+        let mut desk = Desk { machine, memory };
+        let (pr, tm) = (false, true);
+        desk.step(privileged, Event::Host { pr, tm }, Answer::Done);
+        for &event in events {
+            desk.step(0, event, Answer::Done);
+        }
+        desk
+    }
+}
+
+#[test]
+fn k19_and_k20_ones_own_page_and_another() {
+    let suspended = || Desk::with_pages(0, &[BEGIN, ld(17), Event::Tsr { l: false }]);
+    let mut desk = suspended();
+    desk.step(0, tlbie(0), Answer::Recorded);
+    assert_eq!(desk.texasr(), 0x0002_0000_8800_0001);
+    let thread = &desk.machine.threads[0];
+    let control = &thread.control;
+    assert_eq!((control.tfiar, control.doomed), (0x000C, true));
+    assert_eq!((control.nia, thread.cr0), (0x0010, 0b0100));
+    desk.step(0, Event::Tsr { l: true }, Answer::Handled);
+    assert_eq!(desk.machine.threads[0].control.nia, 0x0004);
+
+    let mut desk = suspended();
+    desk.step(0, tlbie(1), Answer::Done);
+    let control = &desk.machine.threads[0].control;
+    assert_eq!((control.texasr.0, control.tfiar), (1, 0));
+    assert_eq!((control.doomed, control.nia), (false, 0x0010));
+    desk.step(0, Event::Tsr { l: true }, Answer::Done);
+    assert_eq!(desk.machine.threads[0].control.state, State::T);
+}
+
+#[test]
+fn k21_to_k24_another_thread_s_page() {
+    let (rot, suspend) = (Event::Tbegin { r: true }, Event::Tsr { l: false });
+    let std = Event::Std { ra: 4, index: 17 };
+    for (events, page, texasr, state) in [
+        (&[BEGIN, ld(17)][..], 0, 0x0002_0000_1800_0001, State::N),
+        (
+            &[BEGIN, ld(17), suspend],
+            0,
+            0x0002_0000_9800_0001,
+            State::S,
+        ),
+        (&[rot, ld(17)], 0, 0x0200_0001, State::T),
+        (&[rot, std], 0, 0x0002_0000_1A00_0001, State::N),
+        (&[BEGIN, ld(511)], 1, 0x0000_0001, State::T),
+        (&[BEGIN, ld(512)], 1, 0x0002_0000_1800_0001, State::N),
+    ] {
+        let mut desk = Desk::with_pages(1, events);
+        desk.step(1, tlbie(page), Answer::Done);
+        assert_eq!(desk.texasr(), texasr, "{events:?}");
+        assert_eq!(desk.machine.threads[0].control.state, state, "{events:?}");
+    }
+}
+
+#[test]
+fn k25_in_t() {
+    let mut desk = Desk::with_pages(0, &[BEGIN]);
+    desk.step(1, BEGIN, Answer::Done);
+    desk.step(1, ld(17), Answer::Done);
+    desk.step(0, tlbie(0), Answer::Handled);
+    assert_eq!(desk.texasr(), 0x0080_0000_0C00_0001);
+    assert_eq!(desk.machine.threads[1].control.state, State::T);
+}
+
+#[test]
+fn k26_the_last_page() {
+    for (len, last) in [(1040, 2), (1024, 1), (MEMORY, 7)] {
+        let mut desk = Desk::with_pages(0, &[]);
+        desk.memory.truncate(len);
+        desk.step(0, tlbie(last), Answer::Done);
+        desk.step(0, tlbie(last + 1), Answer::Operand);
     }
 }

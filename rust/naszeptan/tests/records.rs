@@ -2,7 +2,7 @@
 
 use std::collections::HashSet;
 
-use naszeptan::{raw, Edition, Event, Tape};
+use naszeptan::{raw, Answer, Edition, Event, Kind, Tape, KINDS};
 
 /// The ends of the ranges of register, BF, TO and SPR, and beyond.
 const BYTES: [u8; 8] = [0, 1, 7, 26, 31, 32, 128, 255];
@@ -48,6 +48,8 @@ fn with_bytes() -> Vec<Event> {
 fn events() -> Vec<Event> {
     let mut all = flagged();
     all.extend(with_bytes());
+    let pages = [0, 1, 7, 8, 0x0102_0304, u32::MAX];
+    all.extend(pages.map(|page| Event::Tlbie { page }));
     for x in BYTES {
         all.push(Event::Tabort { ra: x });
         all.push(Event::Tcheck { bf: x });
@@ -77,7 +79,7 @@ fn no_two_events_look_alike() {
     let texts: HashSet<_> = all.iter().map(Event::to_string).collect();
     assert_eq!(texts.len(), all.len());
     let kinds: HashSet<_> = all.iter().map(|event| event.kind()).collect();
-    assert_eq!(kinds, (1..=19).collect());
+    assert_eq!(kinds, (1..=19).chain([26]).collect());
 }
 
 /// TS + 4 x TM + 8 x PR; of a TS above 3 the two low bits count.
@@ -95,6 +97,50 @@ fn flags_of_mtmsrd() {
         let right = [0xE3, 19, 0, 0, 0, 0, flags, 0, 0, 0, 0, 0, 0, 0, 0, 0];
         assert_eq!(event.write_in(Edition::Three, 0), Ok(right));
     }
+}
+
+/// The page stands in the index.
+#[test]
+fn the_record_of_a_tlbie() {
+    let event = Event::Tlbie { page: 0x0102_0304 };
+    let right = [0xE3, 26, 2, 0, 0, 0, 0, 0, 1, 2, 3, 4, 0, 0, 0, 0];
+    assert_eq!(event.write_in(Edition::Three, 2), Ok(right));
+    assert_eq!(event.write_in(Edition::Two, 2), Err(Answer::NoKind));
+    assert_eq!(event.to_string(), "tlbie 16909060");
+    for x in [
+        raw::Event {
+            x: 1,
+            ..event.to_raw(0)
+        },
+        raw::Event {
+            flags: 1,
+            ..event.to_raw(0)
+        },
+    ] {
+        assert_eq!(Event::from_raw(x), Err(Answer::Field));
+    }
+}
+
+/// Each number that has a row is one by which fields are an event, and no other.
+#[test]
+fn rows_by_their_numbers() {
+    for number in 0..=255 {
+        let row = Kind::of(number);
+        assert_eq!(row.is_some(), matches!(number, 1..=19 | 26), "{number}");
+        let fields = raw::Event {
+            kind: number,
+            ..raw::Event::default()
+        };
+        match Event::from_raw(fields) {
+            Ok((_, event)) => {
+                let row = row.expect("a row");
+                assert_eq!((event.kind(), row.number), (number, number));
+                assert!(event.to_string().starts_with(row.name));
+            }
+            Err(refused) => assert_eq!((refused, row), (Answer::NoKind, None)),
+        }
+    }
+    assert!(KINDS.is_sorted_by(|a, b| a.number < b.number));
 }
 
 #[test]

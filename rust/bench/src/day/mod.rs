@@ -11,7 +11,7 @@ mod system;
 use std::collections::VecDeque;
 
 use model::gen::Rng;
-use model::machine::{MAX_MEMORY, THREADS};
+use model::machine::{LINE, MAX_MEMORY, PAGE, THREADS};
 use model::tape::{encode, RECORD};
 use model::{answer, step_trusted, Event, Machine, State};
 use section::Section;
@@ -25,6 +25,8 @@ const LASTING: u64 = 0x00E0_0000 << 32;
 const ONE: u8 = 8;
 /// One event in so many is an interrupt.
 const INTERRUPTS: usize = 500;
+/// The pages of the largest memory.
+const PAGES: usize = MAX_MEMORY / (PAGE * LINE);
 
 /// The tape of a day; the same seed gives the same one.
 pub fn tape(records: usize, seed: u64) -> Vec<u8> {
@@ -136,7 +138,9 @@ impl Day {
             if t.state != State::N && self.rng.one_in(3) {
                 worker.plan = system::reclaim(thread).into();
             } else {
-                let pause = system::pause(thread, t.state, self.rng.flag());
+                let by_rfid = self.rng.flag();
+                let page = self.rng.one_in(3).then(|| self.rng.below(PAGES) as u32);
+                let pause = system::pause(thread, t.state, by_rfid, page);
                 worker.plan = pause.into_iter().chain(worker.plan.drain(..)).collect();
             }
         }

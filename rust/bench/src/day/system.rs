@@ -26,8 +26,8 @@ fn saved(thread: usize, place: usize) -> u32 {
 
 /// A short interrupt, after which the program goes on where it was. It came in
 /// this state; a transaction is suspended meanwhile. The way back is rfid, or the
-/// host's.
-pub fn pause(thread: usize, state: State, by_rfid: bool) -> Vec<Event> {
+/// host's. Some invalidate a page, where a program has lines or the system has.
+pub fn pause(thread: usize, state: State, by_rfid: bool, page: Option<u32>) -> Vec<Event> {
     let index = saved(thread, 0);
     let mut events = vec![
         Event::Interrupt,
@@ -39,6 +39,7 @@ pub fn pause(thread: usize, state: State, by_rfid: bool) -> Vec<Event> {
         },
         Event::Ld { rt: 16, index },
     ];
+    events.extend(page.map(|page| Event::Tlbie { page }));
     if by_rfid {
         events.push(Event::Rfid);
         return events;

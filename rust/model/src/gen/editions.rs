@@ -39,14 +39,15 @@ pub fn near_record(rng: &mut Rng, edition: Edition) -> [u8; RECORD] {
     match rng.below(4) {
         0 => {}
         1 => {
-            record[rng.below(RECORD)] =
-                rng.pick([0, 1, 2, 3, 4, 15, 16, 17, 18, 19, 20, MARK, 255, any])
+            record[rng.below(RECORD)] = rng.pick([
+                0, 1, 2, 3, 4, 15, 16, 17, 18, 19, 20, 25, 26, 27, MARK, 255, any,
+            ])
         }
         2 => record[rng.below(RECORD)] ^= 1 << rng.below(8),
         _ => {
             let (a, b) = (rng.below(RECORD), rng.below(RECORD));
             record.swap(a, b);
-            record[1] = rng.below(22) as u8;
+            record[1] = rng.below(29) as u8;
         }
     }
     record
@@ -93,7 +94,7 @@ fn damaged_record(rng: &mut Rng, edition: Edition) -> [u8; RECORD] {
         let above = rng.pick([4, 5, 255, any | 4]);
         match rng.below(5) {
             0 => record[0] = rng.pick([0, 3, 4, MARK - 1, MARK, MARK + 1, any]),
-            1 => record[1] = rng.pick([0, 18, 19, 20, 255, any]),
+            1 => record[1] = rng.pick([0, 18, 19, 20, 26, 255, any]),
             // Edition three has its thread here, edition two an operand.
             2 => record[2] = above,
             3 => record[2 + rng.below(RECORD - 2)] ^= 1 << rng.below(8),

@@ -2,7 +2,8 @@
 
 use super::machines::line;
 use super::rng::{msr, Rng};
-use crate::machine::{Machine, Msr, Thread, LINE, LOG, THREADS};
+use crate::machine::{Machine, Msr, Thread, LINE, LOG, PAGE, THREADS};
+use crate::tape::KINDS;
 use crate::Event;
 
 fn register(rng: &mut Rng) -> u8 {
@@ -56,6 +57,45 @@ fn index(rng: &mut Rng, m: &Machine, len: usize, thread: u8) -> u32 {
     i as u32
 }
 
+/// The page beside one of the thread's lines that is at a border of its own.
+fn page_beside(rng: &mut Rng, t: &Thread, lines: usize) -> Option<usize> {
+    let both = t.reads.union(&t.writes);
+    let from = rng.below(lines);
+    let mut around = (from..lines).chain(0..from).filter(|&l| both.contains(l));
+    around.find_map(|l| match l % PAGE {
+        0 if l > 0 => Some(l / PAGE - 1),
+        last if last == PAGE - 1 && l + 1 < lines => Some(l / PAGE + 1),
+        _ => None,
+    })
+}
+
+/// A page for a tlbie by this thread: one where a thread that is there, itself
+/// or another, has a line, one beside it, any, the last, the first past the
+/// memory, and ones whose first doubleword would be in memory if it wrapped.
+fn page(rng: &mut Rng, m: &Machine, len: usize, thread: u8) -> u32 {
+    let lines = (len / LINE).max(1);
+    let pages = lines.div_ceil(PAGE);
+    let count = m.count.clamp(1, THREADS);
+    let me = usize::from(thread) % count;
+    let own = line_of(rng, &m.threads[me], lines).unwrap_or(0) / PAGE;
+    let other = &m.threads[(me + 1 + rng.below(count)) % count];
+    let theirs = line_of(rng, other, lines).unwrap_or(0) / PAGE;
+    let page = match rng.below(20) {
+        0..=3 => own,
+        4..=7 => theirs,
+        8..=12 => page_beside(rng, &m.threads[me], lines).unwrap_or(own),
+        13..=15 => page_beside(rng, other, lines).unwrap_or(theirs),
+        16..=17 => rng.below(pages),
+        18 => pages - 1,
+        _ => {
+            let any = rng.bits() as usize;
+            let wraps = any << 23 | rng.below(pages);
+            rng.pick([pages, pages, pages + 1, 8, wraps, u32::MAX as usize, any])
+        }
+    };
+    page as u32
+}
+
 /// An event for this machine with a memory of `len`: mostly of a thread that
 /// is there, with operands in range.
 pub fn event(rng: &mut Rng, m: &Machine, len: usize) -> (u8, Event) {
@@ -67,8 +107,8 @@ pub fn event(rng: &mut Rng, m: &Machine, len: usize) -> (u8, Event) {
         rng.below(count) as u8
     };
     let kind = rng.pick([
-        1, 2, 3, 4, 5, 6, 7, 8, 9, 10, 11, 12, 13, 14, 15, 16, 17, 18, 19, 1, 2, 6, 10, 12, 12, 13,
-        13, 13, 18, 19,
+        1, 2, 3, 4, 5, 6, 7, 8, 9, 10, 11, 12, 13, 14, 15, 16, 17, 18, 19, 26, 1, 2, 6, 10, 12, 12,
+        13, 13, 13, 18, 19, 26, 26,
     ]);
     (thread, event_of(rng, m, len, thread, kind))
 }
@@ -103,7 +143,7 @@ impl Fields {
     }
 }
 
-/// An event of this kind, 1 to 19, for this machine; other numbers give 19.
+/// An event of this kind, 1 to 19 or 26, for this machine; other numbers give 26.
 pub fn event_of(rng: &mut Rng, m: &Machine, len: usize, thread: u8, kind: u8) -> Event {
     // Drawn whatever the kind: coverage tables rest on the order of the draws.
     let Fields { to, bf, spr } = Fields::draw(rng);
@@ -126,10 +166,13 @@ pub fn event_of(rng: &mut Rng, m: &Machine, len: usize, thread: u8, kind: u8) ->
             tm: rng.flag() || rng.flag(),
         },
         18 => Event::Rfid,
-        _ => {
+        19 => {
             let Msr { ts, tm, pr } = msr(rng);
             Event::Mtmsrd { ts, tm, pr }
         }
+        _ => Event::Tlbie {
+            page: page(rng, m, len, thread),
+        },
     }
 }
 
@@ -181,7 +224,7 @@ pub fn any_event(rng: &mut Rng) -> (u8, Event) {
     let si = rng.bits() as u16;
     let one = one & 1 != 0;
     let two = two & 1 != 0;
-    let e = match 1 + rng.below(19) {
+    let e = match KINDS[rng.below(KINDS.len())] {
         1 => Event::Tbegin { r: one },
         2 => Event::Tend { a: one },
         3 => Event::Tabort { ra },
@@ -200,11 +243,12 @@ pub fn any_event(rng: &mut Rng) -> (u8, Event) {
         16 => Event::Interrupt,
         17 => Event::Host { pr: one, tm: two },
         18 => Event::Rfid,
-        _ => Event::Mtmsrd {
+        19 => Event::Mtmsrd {
             ts: x & 3,
             tm: one,
             pr: two,
         },
+        _ => Event::Tlbie { page: index },
     };
     (thread, e)
 }

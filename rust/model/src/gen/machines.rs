@@ -3,7 +3,7 @@
 use super::rng::{srr1, value, Rng};
 use crate::machine::{
     texasr, Entry, LineSet, Machine, Registers, State, Thread, LINE, LOG, MAX_FOOTPRINT, MAX_LEVEL,
-    MAX_MEMORY, THREADS,
+    MAX_MEMORY, PAGE, THREADS,
 };
 
 /// An instruction address: a multiple of 4.
@@ -26,6 +26,7 @@ pub fn length(rng: &mut Rng) -> usize {
         LINE,
         2 * LINE,
         8 * LINE,
+        PAGE * LINE,
         33 * LINE,
         64 * LINE,
         MAX_MEMORY,
@@ -48,16 +49,28 @@ pub(super) fn line(rng: &mut Rng, lines: usize) -> usize {
     }
 }
 
+/// The last line of a page, or the first of the next, if they are in memory.
+fn line_at_border(rng: &mut Rng, lines: usize) -> usize {
+    let border = PAGE * (1 + rng.below(lines.div_ceil(PAGE)));
+    (border - rng.below(2)).min(lines - 1)
+}
+
 /// Gives a live transaction its sets. `held` and `written` are the lines that
 /// other threads have, and those that they write.
 fn fill_sets(rng: &mut Rng, t: &mut Thread, len: usize, held: &LineSet, written: &LineSet) {
     let lines = len / LINE;
     let some = rng.below(MAX_FOOTPRINT as usize + 1);
     let full = MAX_FOOTPRINT as usize;
-    let goal = rng.pick([0, 1, 2, 3, 6, some, full - 1, full, full, full]) as u32;
+    // Now and then a transaction has a few lines at the borders of pages alone.
+    let at_borders = rng.one_in(5);
+    let goal = match at_borders {
+        true => 1 + rng.below(3),
+        false => rng.pick([0, 1, 2, 3, 6, some, full - 1, full, full, full, full]),
+    } as u32;
     let writing = rng.pick([0, 1, 1, 2, 3, 4]);
+    let draw = if at_borders { line_at_border } else { line };
     for _ in 0..400 {
-        let l = line(rng, lines);
+        let l = draw(rng, lines);
         let mine = t.reads.contains(l) || t.writes.contains(l);
         if !mine && t.footprint() >= goal {
             // Keep trying: a line may still join its other set.

@@ -15,14 +15,15 @@ pub fn record(rng: &mut Rng) -> [u8; RECORD] {
     match rng.below(4) {
         0 => {}
         1 => {
-            record[rng.below(RECORD)] =
-                rng.pick([0, 1, 2, 3, 4, 15, 16, 17, 18, 19, 20, MARK, 255, any])
+            record[rng.below(RECORD)] = rng.pick([
+                0, 1, 2, 3, 4, 15, 16, 17, 18, 19, 20, 25, 26, 27, MARK, 255, any,
+            ])
         }
         2 => record[rng.below(RECORD)] ^= 1 << rng.below(8),
         _ => {
             let (a, b) = (rng.below(RECORD), rng.below(RECORD));
             record.swap(a, b);
-            record[1] = rng.below(22) as u8;
+            record[1] = rng.below(29) as u8;
         }
     }
     record

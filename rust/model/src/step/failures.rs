@@ -11,6 +11,7 @@ pub(super) mod cause {
     pub const SELF_INDUCED: u32 = 0x0010_0000;
     pub const NON_TRANSACTIONAL: u32 = 0x0008_0000;
     pub const TRANSACTION: u32 = 0x0004_0000;
+    pub const TRANSLATION: u32 = 0x0002_0000;
     pub const ABORT: u32 = 0x0000_0001;
 }
 
@@ -28,9 +29,10 @@ impl Thread {
 
     /// Recording. NIA has not moved yet, so it is the address in both cases:
     /// the thread's own instruction, or where another thread's event met it.
+    /// It is exact for the thread's own event, but for its own tlbie (rule F4).
     /// Gives whether it was recorded, which rule H8 tells: with FS = 0 the
     /// transaction was live, and now it is not.
-    pub(super) fn record(&mut self, cause: u32, own: bool) -> bool {
+    pub(super) fn record(&mut self, cause: u32, exact: bool) -> bool {
         if self.failed() {
             return false;
         }
@@ -39,7 +41,7 @@ impl Thread {
             | flag(self.state == State::S, texasr::SUSPENDED)
             | flag(self.pr, texasr::PR)
             | texasr::FS
-            | flag(own, texasr::EXACT)
+            | flag(exact, texasr::EXACT)
             | self.texasr & (texasr::ROT | texasr::TL);
         self.tfiar = self.nia & !3 | u64::from(self.pr);
         self.doomed = true;

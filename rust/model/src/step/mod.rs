@@ -1,4 +1,4 @@
-//! Doing one event: rules E1 to E19 and A0 to A5, and the tests of an event,
+//! Doing one event: rules E1 to E19, E26 and A0 to A6, and the tests of an event,
 //! rule N2. Who failed in it, rule H8, is noted where the failure is recorded
 //! or handled.
 //!
@@ -9,6 +9,7 @@ mod aborts;
 mod access;
 mod failures;
 mod interrupts;
+mod pages;
 mod refusals;
 mod registers;
 mod transactions;
@@ -18,7 +19,8 @@ use crate::machine::State::{N, S};
 use crate::machine::{valid, Machine, Msr, THREADS};
 use crate::Event;
 use access::{load, store};
-use refusals::{access, test};
+use pages::tlbie;
+use refusals::{access, page_in_memory, test};
 
 /// What an event gives: its answer, and by rule H8 who failed in it, thread v
 /// by bit v from the lowest on.
@@ -153,5 +155,10 @@ fn attempt(m: &mut Machine, mem: &mut [u64], thread: u8, e: Event) -> Result<Wen
         Event::Host { pr, tm } => t.host_may()?.host(pr, tm),
         Event::Rfid => t.privileged()?.rfid()?,
         Event::Mtmsrd { ts, tm, pr } => t.privileged()?.mtmsrd(Msr { ts, tm, pr })?,
+        Event::Tlbie { page } => {
+            page_in_memory(page, mem)?;
+            t.privileged()?;
+            tlbie(m, me, page)
+        }
     })
 }

@@ -2,7 +2,7 @@
 //! give the thread where they hold, so that one can follow another.
 
 use crate::answer;
-use crate::machine::{State, Thread};
+use crate::machine::{State, Thread, LINE, PAGE};
 
 /// What a test gives: the number where it does not hold.
 type Test<T> = Result<T, u8>;
@@ -20,6 +20,14 @@ pub(super) fn test(holds: bool, number: u8) -> Test<()> {
 #[inline(always)]
 pub(super) fn access(r: u8, index: u32, mem: &[u64]) -> Test<()> {
     test(r <= 31 && (index as usize) < mem.len(), answer::OPERAND)
+}
+
+/// Test 4 for a page: its first doubleword is in memory (rule M16). The product
+/// has 41 bits at the most, so that it does not wrap.
+#[inline(always)]
+pub(super) fn page_in_memory(page: u32, mem: &[u64]) -> Test<()> {
+    let first = u64::from(page) * (PAGE * LINE) as u64;
+    test(first < mem.len() as u64, answer::OPERAND)
 }
 
 impl Thread {

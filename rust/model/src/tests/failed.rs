@@ -151,6 +151,19 @@ fn rfid_and_mtmsrd_tell_what_they_handle() {
     b.fails(0, mtmsrd(2), 13, 0).is(State::S);
 }
 
+#[test]
+fn a_tlbie_tells_its_victims_and_itself() {
+    let mut b = Bench::fresh();
+    for thread in 0..3 {
+        b.done_by(thread, TBEGIN).done_by(thread, ld(1, 64));
+    }
+    b.done_by(1, TSUSPEND).done_by(2, TSUSPEND).may(2).may(3);
+    b.clone().fails(3, tlbie(0), 0, 0b0111);
+    b.clone().fails(3, tlbie(1), 0, 0);
+    b.fails(2, tlbie(0), 21, 0b0111).fails(2, tlbie(0), 0, 0);
+    b.done_by(3, TBEGIN).fails(3, tlbie(0), 20, 0b1000);
+}
+
 /// The bit of a thread by the rule's own sentence, from before and after.
 fn told(before: &Bench, after: &Bench, v: usize, own: bool, e: Event, answer: u8) -> bool {
     let ended = before.thread(v).is_live() && !after.thread(v).is_live();

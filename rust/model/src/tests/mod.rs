@@ -122,6 +122,12 @@ impl Bench {
         crate::run(&mut self.m, &mut self.mem, tape)
     }
 
+    /// Does kind 17 with PR = 0 and TM = 1 by a thread.
+    fn privilege(&mut self, thread: u8) -> &mut Bench {
+        let (pr, tm) = (false, true);
+        self.done_by(thread, Event::Host { pr, tm })
+    }
+
     fn thread(&self, n: usize) -> &Thread {
         &self.m.threads[n]
     }
@@ -208,6 +214,10 @@ const fn ld(rt: u8, index: u32) -> Event {
 
 const fn std(ra: u8, index: u32) -> Event {
     Event::Std { ra, index }
+}
+
+const fn tlbie(page: u32) -> Event {
+    Event::Tlbie { page }
 }
 
 const fn addi(rt: u8, ra: u8, si: u16) -> Event {

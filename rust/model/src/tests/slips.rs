@@ -1,4 +1,4 @@
-//! Rules S1 to S5: slips to keep out.
+//! Rules S1 to S6: slips to keep out.
 
 use super::*;
 
@@ -118,4 +118,12 @@ fn a_logged_doubleword_keeps_its_place() {
     assert_eq!(b.thread(0).live.gpr[2], 1000);
     assert_eq!(b.mem[20], 1000);
     assert_eq!(b.mem[63], 1);
+}
+
+#[test]
+fn a_tlbie_is_held_against_lines_only_read() {
+    for (e, hit) in [(ld(1, 17), tlbie(0)), (std(1, 17), tlbie(0))] {
+        let mut b = Bench::begun();
+        b.done(e).privilege(1).done_by(1, hit).is(State::N);
+    }
 }

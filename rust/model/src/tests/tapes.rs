@@ -78,19 +78,20 @@ pub(super) const KINDS_10_TO_17: [Bytes; 9] = [
 ];
 
 /// Edition two has not these.
-pub(super) const KINDS_18_AND_19: [Bytes; 6] = [
+pub(super) const KINDS_FROM_18: [Bytes; 7] = [
     (Event::Rfid, [18, 0, 0, 0, 0]),
     (mtmsrd(1), [19, 0, 0, 0, 1]),
     (mtmsrd(2), [19, 0, 0, 0, 2]),
     (mtmsrd(4), [19, 0, 0, 0, 4]),
     (mtmsrd(8), [19, 0, 0, 0, 8]),
     (mtmsrd(15), [19, 0, 0, 0, 15]),
+    (tlbie(0), [26, 0, 0, 0, 0]),
 ];
 
 #[test]
 fn bytes_of_each_kind() {
     let kinds = KINDS_1_TO_9.into_iter().chain(KINDS_10_TO_17);
-    for (e, [kind, x, ra, rb, flags]) in kinds.chain(KINDS_18_AND_19) {
+    for (e, [kind, x, ra, rb, flags]) in kinds.chain(KINDS_FROM_18) {
         let bytes = [
             0xE3, kind, 0xD4, x, ra, rb, flags, 0, 0, 0, 0, 0, 0, 0, 0, 0,
         ];
@@ -115,6 +116,10 @@ fn bytes_of_an_index_and_an_immediate() {
     assert_eq!(
         encode(1, ld(2, 0x0102_0304)),
         [0xE3, 12, 1, 2, 0, 0, 0, 0, 1, 2, 3, 4, 0, 0, 0, 0]
+    );
+    assert_eq!(
+        encode(1, tlbie(0x0102_0304)),
+        [0xE3, 26, 1, 0, 0, 0, 0, 0, 1, 2, 3, 4, 0, 0, 0, 0]
     );
     assert_eq!(
         encode(1, addi(2, 3, 0x0506)),

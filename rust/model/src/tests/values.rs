@@ -1,4 +1,4 @@
-//! Rules K1 to K18: the bench values.
+//! Rules K1 to K26: the bench values.
 
 use super::*;
 
@@ -240,4 +240,100 @@ fn k18_s_is_asked_for_n() {
     assert_eq!((b.thread(0).tm, b.thread(0).pr), (false, true));
     on.m.threads[0].tm = true;
     on.refused(mtmsrd(8), 13);
+}
+
+/// Thread 0 privileged, and suspended after a load of doubleword 17.
+fn suspended_with_line_1() -> Bench {
+    let mut b = Bench::fresh();
+    b.privilege(0).done(TBEGIN).done(ld(1, 17)).done(TSUSPEND);
+    b
+}
+
+#[test]
+fn k19_tlbie_of_ones_own_page() {
+    let mut b = suspended_with_line_1();
+    b.gives(tlbie(0), 21).is(State::S);
+    let t = b.thread(0);
+    assert_eq!((t.texasr, t.tfiar), (0x0002_0000_8800_0001, 0x000C));
+    assert!(t.doomed && t.reads.is_empty() && t.writes.is_empty() && t.count == 0);
+    assert_eq!((t.nia, t.cr0), (0x0010, 0b0100));
+    b.gives(TRESUME, 20).is(State::N);
+    assert_eq!(b.thread(0).nia, 0x0004);
+}
+
+#[test]
+fn k20_tlbie_of_another_page() {
+    let mut b = suspended_with_line_1();
+    b.done(tlbie(1));
+    let t = b.thread(0);
+    assert_eq!((t.texasr, t.tfiar, t.doomed), (0x0000_0001, 0, false));
+    assert!(t.reads.contains(1) && t.footprint() == 1);
+    assert_eq!(t.nia, 0x0010);
+    b.done(TRESUME).is(State::T);
+}
+
+/// Thread 1 is privileged; thread 0 has done these, by its first page.
+fn before_tlbie(events: &[Event]) -> Bench {
+    let mut b = Bench::fresh();
+    b.privilege(1);
+    for &e in events {
+        b.done(e);
+    }
+    b
+}
+
+#[test]
+fn k21_tlbie_against_t() {
+    let mut b = before_tlbie(&[TBEGIN, ld(1, 17)]);
+    b.done_by(1, tlbie(0)).is(State::N);
+    let t = b.thread(0);
+    assert_eq!((t.texasr, t.tfiar), (0x0002_0000_1800_0001, 0x0009));
+    assert_eq!((t.nia, t.cr0), (0x0004, 0b1010));
+}
+
+#[test]
+fn k22_tlbie_against_s() {
+    let mut b = before_tlbie(&[TBEGIN, ld(1, 17), TSUSPEND]);
+    b.done_by(1, tlbie(0)).is(State::S);
+    let t = b.thread(0);
+    assert_eq!((t.texasr, t.tfiar), (0x0002_0000_9800_0001, 0x000D));
+    assert_eq!((t.doomed, t.nia, t.cr0), (true, 0x000C, 0b0100));
+}
+
+#[test]
+fn k23_tlbie_spares_loads_under_rot() {
+    let mut b = before_tlbie(&[TBEGIN_ROT, ld(1, 17)]);
+    b.done_by(1, tlbie(0)).is(State::T);
+    assert_eq!(b.thread(0).texasr, 0x0200_0001);
+    let mut b = before_tlbie(&[TBEGIN_ROT, std(1, 17)]);
+    b.done_by(1, tlbie(0)).is(State::N);
+    assert_eq!(b.thread(0).texasr, 0x0002_0000_1A00_0001);
+}
+
+#[test]
+fn k24_the_border_of_a_page() {
+    let mut b = before_tlbie(&[TBEGIN, ld(1, 511)]);
+    b.done_by(1, tlbie(1)).is(State::T);
+    let mut b = before_tlbie(&[TBEGIN, ld(1, 512)]);
+    b.done_by(1, tlbie(1)).is(State::N);
+    assert_eq!(b.thread(0).texasr, 0x0002_0000_1800_0001);
+}
+
+#[test]
+fn k25_tlbie_in_t() {
+    let mut b = Bench::fresh();
+    b.privilege(0).done_by(1, TBEGIN).done_by(1, ld(1, 17));
+    let other = b.thread(1).clone();
+    b.done(TBEGIN).gives(tlbie(0), 20);
+    assert_eq!(b.thread(0).texasr, 0x0080_0000_0C00_0001);
+    assert_eq!(*b.thread(1), other);
+}
+
+#[test]
+fn k26_the_last_page() {
+    for (len, last) in [(1040, 2), (1024, 1), (4096, 7)] {
+        let mut b = Bench::fresh();
+        b.mem.resize(len, 0);
+        b.privilege(0).done(tlbie(last)).refused(tlbie(last + 1), 4);
+    }
 }

@@ -154,6 +154,7 @@ fn refused_records(edition: Edition) -> Vec<(u8, [u8; 16])> {
             // The writer's, for edition two has not these kinds.
             (8, encode(3, Event::Rfid)),
             (8, encode(0, mtmsrd(15))),
+            (8, encode(0, tlbie(1))),
             (3, encode(4, Event::Rfid)),
         ],
     });

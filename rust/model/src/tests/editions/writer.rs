@@ -3,7 +3,7 @@
 use super::*;
 use crate::edition_two::refusal;
 use crate::gen;
-use crate::tests::tapes::{KINDS_10_TO_17, KINDS_18_AND_19, KINDS_1_TO_9};
+use crate::tests::tapes::{KINDS_10_TO_17, KINDS_1_TO_9, KINDS_FROM_18};
 
 /// The event into buffers of each length: the number, and what may change.
 fn into_each_length(thread: u8, e: Event) {
@@ -28,7 +28,7 @@ fn into_each_length(thread: u8, e: Event) {
 #[test]
 fn each_kind_by_each_thread_into_each_length() {
     let kinds = KINDS_1_TO_9.into_iter().chain(KINDS_10_TO_17);
-    for (e, _) in kinds.chain(KINDS_18_AND_19) {
+    for (e, _) in kinds.chain(KINDS_FROM_18) {
         for thread in [0, 1, 2, 3, 4, 5, 0xE3, 255] {
             into_each_length(thread, e);
         }
@@ -44,6 +44,7 @@ fn numbers_in_their_order() {
         (4, 17, 16, Some(3)),
         (3, 18, 15, Some(8)),
         (0, 19, 16, Some(8)),
+        (0, 26, 16, Some(8)),
         (0, 255, 16, Some(8)),
         (3, 17, 15, Some(10)),
         (0, 1, 0, Some(10)),

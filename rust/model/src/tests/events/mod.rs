@@ -1,9 +1,10 @@
-//! Rules E1 to E19 and A0 to A5: each rule once, by hand.
+//! Rules E1 to E19, E26 and A0 to A6: each rule once, by hand.
 
 mod aborts;
 mod access;
 mod conflicts;
 mod interrupts;
+mod pages;
 mod registers;
 mod transactions;
 

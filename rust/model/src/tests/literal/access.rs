@@ -1,4 +1,4 @@
-//! The sentences of rules A0 to A5, on threads in plain values.
+//! The sentences of rules A0 to A6, on threads in plain values.
 
 use super::plain::Plain;
 use super::rules::own_failure;
@@ -29,6 +29,29 @@ pub fn access(threads: &mut [Plain], mem: &mut [u64], me: usize, e: Event, cia: 
         load_doubleword(&mut threads[me], mem, r, index);
     }
     number
+}
+
+/// Event 26: in T disallowed, else A6 and the thread's own transaction.
+pub fn tlbie(threads: &mut [Plain], me: usize, page: u32, cia: u64) -> u8 {
+    if threads[me].state == State::T {
+        return own_failure(&mut threads[me], 0x0080_0000, cia);
+    }
+    let has = |t: &Plain| t.lines().iter().any(|line| line / 32 == page);
+    for n in 0..threads.len() {
+        let t = &mut threads[n];
+        if n != me && t.live_transaction() && has(t) {
+            t.record(0x0002_0000, false, t.nia);
+            if t.state == State::T {
+                t.handle();
+            }
+        }
+    }
+    let t = &mut threads[me];
+    if t.state == State::S && !t.doomed && has(t) {
+        t.record(0x0002_0000, false, cia);
+        return 21;
+    }
+    0
 }
 
 /// A1: the access needs a line or a place in the log that is not there.

@@ -1,4 +1,4 @@
-//! Rules E1 to E19 and A0 to A5 once more, in plain values: sets
+//! Rules E1 to E19, E26 and A0 to A6 once more, in plain values: sets
 //! of line numbers, a log that is a list, no words and no short cuts. It is
 //! slow and follows the sentences; the real step must agree with it.
 

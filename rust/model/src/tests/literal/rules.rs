@@ -1,8 +1,8 @@
-//! The sentences of rules E1 to E19, on threads in plain values.
+//! The sentences of rules E1 to E19 and E26, on threads in plain values.
 
 use std::cmp::Ordering::{self, Equal, Greater, Less};
 
-use super::access::access;
+use super::access::{access, tlbie};
 use super::plain::{Lower, Plain};
 use crate::{Event, State};
 
@@ -44,6 +44,7 @@ fn refuses(t: &Plain, len: usize, e: Event) -> Option<u8> {
             ![26, 27, 128, 129, 130, 131].contains(&spr)
         }
         Event::Ld { index, .. } | Event::Std { index, .. } => index as usize >= len,
+        Event::Tlbie { page } => 512 * u128::from(page) >= len as u128,
         _ => false,
     };
     if big_register || big_field {
@@ -56,7 +57,7 @@ fn refuses(t: &Plain, len: usize, e: Event) -> Option<u8> {
     if !t.tm && e.kind() <= 11 && !system {
         return Some(11);
     }
-    if t.pr && (matches!(e.kind(), 8 | 9 | 18 | 19) || system) {
+    if t.pr && (matches!(e.kind(), 8 | 9 | 18 | 19 | 26) || system) {
         return Some(12);
     }
     let bad = match e.kind() {
@@ -177,6 +178,7 @@ pub fn literal(threads: &mut [Plain], mem: &mut [u64], me: usize, e: Event) -> u
         Event::Interrupt => interrupt(t),
         Event::Host { pr, tm } => (t.pr, t.tm) = (pr, tm),
         Event::Rfid | Event::Mtmsrd { .. } => return comes_back(t, e, cia),
+        Event::Tlbie { page } => return tlbie(threads, me, page, cia),
     }
     0
 }

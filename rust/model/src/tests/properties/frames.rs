@@ -12,6 +12,7 @@ fn frames() {
             other_threads(&s);
             answers(&s);
             own_registers(&s);
+            pages(&s);
         }
     });
 }
@@ -35,13 +36,14 @@ fn memory(s: &Stepped) {
     }
 }
 
-/// Only an access that is made touches other threads, and those with a live
-/// transaction alone.
+/// Only an access that is made, or a tlbie, touches other threads, and those with
+/// a live transaction alone.
 fn other_threads(s: &Stepped) {
     for n in s.others() {
         let (old, new) = s.each(n);
         if old != new {
-            assert!(matches!(s.e, Event::Ld { .. } | Event::Std { .. }));
+            let touching = matches!(s.e.kind(), 12 | 13 | 26);
+            assert!(touching, "{:?}", s.e);
             assert!(old.is_live() && s.number != 20);
             failed_by_another(old, new);
         }
@@ -99,4 +101,31 @@ fn own_registers(s: &Stepped) {
     if old.failed() && !matches!(kind, 1 | 10) {
         assert_eq!((new.texasr, new.tfiar), (old.texasr, old.tfiar));
     }
+}
+
+/// Rule A6: in a tlbie that is done in N or S those fail that were live and had a
+/// line of the page, its own thread included; what is recorded says so.
+fn pages(s: &Stepped) {
+    let Event::Tlbie { page } = s.e else { return };
+    if s.number == 20 {
+        return;
+    }
+    for n in 0..s.before.m.count {
+        let (old, new) = s.each(n);
+        let has = |l| old.reads.contains(l) || old.writes.contains(l);
+        let first = 32 * page as usize;
+        let fails = (first..first + 32).filter(|&l| l < 256).any(has);
+        assert_eq!(old.is_live() && !new.is_live(), fails, "thread {n}");
+        if fails {
+            assert_eq!(new.texasr >> 32, 0x0002_0000);
+            assert_eq!(new.texasr & texasr::EXACT, 0);
+            assert_eq!(new.tfiar, old.nia | u64::from(old.pr));
+        } else {
+            assert_eq!((new.texasr, new.tfiar), (old.texasr, old.tfiar));
+            assert_eq!((new.reads, new.writes), (old.reads, old.writes));
+        }
+    }
+    let (old, new) = s.own();
+    assert_eq!((new.cr0, new.live), (old.cr0, old.live));
+    assert_eq!(s.number == 21, new.doomed && !old.doomed);
 }

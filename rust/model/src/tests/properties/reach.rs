@@ -4,13 +4,14 @@
 use std::collections::{BTreeMap, BTreeSet};
 
 use super::*;
+use crate::tape::KINDS;
 use crate::Msr;
 
 #[test]
 fn reach() {
     let mut seen = Seen::default();
     let mut rng = Rng::new(77);
-    for _ in 0..60_000 {
+    for _ in 0..120_000 {
         seen.event(&Stepped::draw(&mut rng));
     }
     let wanted = wanted();
@@ -28,7 +29,7 @@ fn reach() {
 fn reach_of_what_is_asked() {
     let mut met = BTreeMap::<_, usize>::new();
     let mut rng = Rng::new(78);
-    for _ in 0..200_000 {
+    for _ in 0..240_000 {
         let s = Stepped::draw(&mut rng);
         if s.thread >= s.before.m.count || s.before.thread(s.thread).pr {
             continue;
@@ -80,6 +81,7 @@ impl Seen {
         match s.e {
             Event::Ld { index, .. } => self.access(s, "ld", index),
             Event::Std { index, .. } => self.access(s, "std", index),
+            Event::Tlbie { page } if matches!(number, 0 | 21) => self.tlbie(s, page),
             Event::Tbegin { r } if done_in_t => {
                 self.note(format!("nested to {}", after.level()));
                 self.note(format!("nested, rot {}, R {r}", t.rot()));
@@ -103,6 +105,38 @@ impl Seen {
         } else {
             self.access_made(s, name, index);
             self.victims(s, name);
+        }
+    }
+
+    fn tlbie(&mut self, s: &Stepped, page: u32) {
+        self.victims(s, "tlbie");
+        let page = page as usize;
+        if 512 * (page + 1) > s.before.mem.len() {
+            self.note("tlbie of a page that ends past the memory");
+        }
+        for n in (0..s.before.m.count).filter(|&n| s.before.thread(n).is_live()) {
+            let (t, whose) = (
+                s.before.thread(n),
+                if n == s.thread { "own" } else { "another" },
+            );
+            let lines = (0..256).filter(|&l| has(t, l));
+            let (within, beside): (Vec<_>, Vec<_>) = lines.partition(|l| l / 32 == page);
+            let last = 32 * page + 31;
+            if within.is_empty() && beside.contains(&(last + 1)) {
+                self.note(format!("tlbie below the first line of {whose}"));
+            }
+            if within.is_empty() && beside.contains(&last.wrapping_sub(32)) {
+                self.note(format!("tlbie above the last line of {whose}"));
+            }
+            if within == [last] || within == [32 * page] {
+                self.note(format!("tlbie at the border of {whose}"));
+            }
+            if !within.is_empty() && within.iter().all(|&l| !t.writes.contains(l)) {
+                self.note(format!("tlbie of lines only read by {whose}"));
+            }
+            if t.rot() && within.is_empty() {
+                self.note(format!("tlbie spares a ROT of {whose}"));
+            }
         }
     }
 
@@ -159,7 +193,7 @@ const STATES: [&str; 4] = ["N", "T", "S live", "S doomed"];
 const LIVE: [&str; 2] = ["T", "S live"];
 
 /// Answers that a kind has in a state besides that of `of_kind`.
-const OTHER_ANSWERS: [(u8, &str, u8); 13] = [
+const OTHER_ANSWERS: [(u8, &str, u8); 15] = [
     (1, "T", 20),
     (4, "T", 20),
     (5, "T", 20),
@@ -173,9 +207,11 @@ const OTHER_ANSWERS: [(u8, &str, u8); 13] = [
     (18, "S doomed", 20),
     (19, "S live", 13),
     (19, "S doomed", 20),
+    (26, "S live", 21),
+    (26, "S live", 4),
 ];
 
-const SPECIAL: [&str; 23] = [
+const SPECIAL: [&str; 38] = [
     "std overflow: lines false, places true",
     "std overflow: lines true, places true",
     "ld at 32: own line false, rot true",
@@ -199,12 +235,29 @@ const SPECIAL: [&str; 23] = [
     "tend to N, rot true",
     "tend to T, rot false",
     "tend to T, rot true",
+    "tlbie: 0 victims",
+    "tlbie: 1 victims",
+    "tlbie: 2 victims",
+    "tlbie: 3 victims",
+    "tlbie of a page that ends past the memory",
+    "tlbie below the first line of own",
+    "tlbie below the first line of another",
+    "tlbie above the last line of own",
+    "tlbie above the last line of another",
+    "tlbie at the border of own",
+    "tlbie at the border of another",
+    "tlbie of lines only read by own",
+    "tlbie of lines only read by another",
+    "tlbie spares a ROT of own",
+    "tlbie spares a ROT of another",
 ];
 
 /// All that is to be seen often enough.
 fn wanted() -> Vec<String> {
     let answers = [0, 20, 21, 3, 4, 5, 11, 12, 13].map(|number| format!("answer {number}"));
-    let kinds = (1..=19).flat_map(|kind| STATES.map(|state| of_kind(kind, state)));
+    let kinds = KINDS
+        .into_iter()
+        .flat_map(|kind| STATES.map(|state| of_kind(kind, state)));
     let others =
         OTHER_ANSWERS.map(|(kind, state, number)| format!("kind {kind} in {state}: {number}"));
     let levels = [2, 3, MAX_LEVEL].map(|level| format!("nested to {level}"));
@@ -214,6 +267,7 @@ fn wanted() -> Vec<String> {
     wanted.extend(others);
     wanted.extend(levels);
     wanted.extend(accesses);
+    wanted.extend(victims_of_a_tlbie());
     wanted.extend(SPECIAL.map(String::from));
     wanted
 }
@@ -226,13 +280,20 @@ fn of_kind(kind: u8, state: &str) -> Vec<String> {
         (2 | 9, "S live" | "S doomed") | (9 | 10 | 17, "T") | (8, "N") => {
             return vec![reached];
         }
-        (3 | 15 | 18 | 19, "T") => 20,
+        (3 | 15 | 18 | 19 | 26, "T") => 20,
         (3, "S live") => 21,
         (6, "S doomed") => 20,
         _ => 0,
     };
     let answered = format!("{reached}: {done}");
     vec![reached, answered]
+}
+
+/// In T a tlbie has none.
+fn victims_of_a_tlbie() -> impl Iterator<Item = String> {
+    ["N", "S live", "S doomed"]
+        .into_iter()
+        .flat_map(|state| LIVE.map(|victim| format!("tlbie in {state} fails {victim}")))
 }
 
 fn of_access(name: &str) -> Vec<String> {

@@ -30,7 +30,10 @@ fn operands_out_of_range() -> Vec<Event> {
     let indices = [4096, 4097, 1 << 16, u32::MAX]
         .into_iter()
         .flat_map(|index| [ld(0, index), std(0, index)]);
-    registers.chain(fields).chain(sprs).chain(indices).collect()
+    // 512 x page is 0 or small, modulo 2^32, in some of these.
+    let pages = [8, 9, 1 << 23, (1 << 23) + 1, 1 << 31, u32::MAX].map(tlbie);
+    let fields = registers.chain(fields).chain(sprs);
+    fields.chain(indices).chain(pages).collect()
 }
 
 #[test]
@@ -70,6 +73,34 @@ fn number_4_by_the_memory_that_is_lent() {
     b.mem.resize(48, 0);
     b.refused(ld(0, 48), 4).refused(std(0, 48), 4);
     b.done(ld(0, 47)).done(std(0, 47));
+    // A page by its first doubleword.
+    for (len, pages) in [(16, 1), (512, 1), (528, 2), (1008, 2), (1024, 2), (1040, 3)] {
+        let mut b = Bench::privileged();
+        b.mem.resize(len, 0);
+        b.done(tlbie(0)).done(tlbie(pages - 1));
+        for page in [pages, pages + 1, 1 << 23, u32::MAX] {
+            b.refused(tlbie(page), 4);
+        }
+    }
+}
+
+/// A tlbie is no TM instruction, and its page and then PR are asked in T too.
+#[test]
+fn numbers_4_and_12_of_tlbie_in_every_state() {
+    for tm in [false, true] {
+        for mut b in in_each_state(true, tm) {
+            b.refused(tlbie(8), 4).refused(tlbie(0), 12);
+        }
+        for mut b in in_each_state(false, tm) {
+            b.refused(tlbie(8), 4);
+            let number = match (b.thread(0).state, b.thread(0).doomed) {
+                (State::T, _) => 20,
+                (State::S, false) => 21,
+                _ => 0,
+            };
+            b.gives(tlbie(0), number);
+        }
+    }
 }
 
 #[test]
@@ -112,7 +143,7 @@ fn number_11_facility_off() {
 fn number_12_privileged() {
     for e in EACH {
         for mut b in in_each_state(true, true) {
-            if matches!(e.kind(), 8 | 9 | 18 | 19) {
+            if matches!(e.kind(), 8 | 9 | 18 | 19 | 26) {
                 // Also before 13.
                 b.refused(e, 12);
             } else {

@@ -7,10 +7,11 @@ mod records;
 
 use super::*;
 use crate::machine::texasr;
+use crate::tape::KINDS;
 use crate::{read, write};
 
 /// One event of each kind with operands in range.
-const EACH: [Event; 19] = [
+const EACH: [Event; 20] = [
     Event::Tbegin { r: true },
     Event::Tend { a: true },
     Event::Tabort { ra: 31 },
@@ -55,6 +56,7 @@ const EACH: [Event; 19] = [
         tm: true,
         pr: true,
     },
+    Event::Tlbie { page: 7 },
 ];
 
 /// Thread 0 in N, T, S live, S doomed, with this PR and TM.
