@@ -186,6 +186,7 @@ fn vectors_agree() {
     assert!(hold_vectors("test_vectors") > 300);
     assert!(hold_vectors("test_vectors_more") > 250);
     assert!(hold_vectors("test_vectors_returns") > 200);
+    assert!(hold_vectors("test_vectors_pages") > 200);
 }
 
 #[test]

@@ -18,17 +18,17 @@ use crate::{Answer, Edition, Kind};
 /// `0`. No two events look alike.
 ///
 /// ```
-/// use naszeptan::Event;
+/// use naszeptan::{Event, Ts};
 ///
 /// assert_eq!(Event::Tbegin { r: true }.to_string(), "tbegin. R=1");
 /// assert_eq!(Event::Std { ra: 3, index: 17 }.to_string(), "std r3, 17");
 /// assert_eq!(Event::Mtspr { spr: 130, ra: 4 }.to_string(), "mtspr 130, r4");
 /// assert_eq!(Event::Addi { rt: 3, ra: 0, si: 0xFFFF }.to_string(), "addi r3, 0, -1");
 /// assert_eq!(
-///     Event::Mtmsrd { ts: 2, tm: true, pr: false }.to_string(),
+///     Event::Mtmsrd { ts: Ts::T, tm: true, pr: false }.to_string(),
 ///     "mtmsrd TS=10, TM=1, PR=0"
 /// );
-/// assert_eq!(Event::Tlbie { page: 3 }.to_string(), "tlbie 3");
+/// assert_eq!(Event::Tlbie { page: 3 }.to_string(), "tlbie page 3");
 /// assert_eq!(Event::Std { ra: 3, index: 17 }.kind(), 13);
 /// ```
 #[derive(Clone, Copy, Debug, PartialEq, Eq, Hash)]
@@ -143,9 +143,8 @@ pub enum Event {
     /// 19: asks for a state, TM and PR as [`Event::Rfid`] does, and goes on
     /// behind itself; privileged.
     Mtmsrd {
-        /// TS, a number of two bits: 0 is N, 1 is S, 2 is T, and 3 is no state.
-        /// Higher bits do not count.
-        ts: u8,
+        /// TS, the state that is asked for.
+        ts: Ts,
         /// TM.
         tm: bool,
         /// PR.
@@ -161,6 +160,34 @@ pub enum Event {
     },
 }
 
+/// TS, the two bits of the state that [`Event::Mtmsrd`] asks for, as the MSR has
+/// them (docs/RULES.md, M7). The byte of a machine's [`State`](crate::State) has
+/// other numbers.
+#[derive(Clone, Copy, PartialEq, Eq, Hash, Debug)]
+#[repr(u8)]
+pub enum Ts {
+    /// 00: Non-transactional.
+    N,
+    /// 01: Suspended.
+    S,
+    /// 10: Transactional.
+    T,
+    /// 11: no state, which 13 refuses outside T.
+    None,
+}
+
+impl Ts {
+    /// By the two low bits of a number.
+    pub const fn of(bits: u8) -> Ts {
+        match bits & 3 {
+            0 => Ts::N,
+            1 => Ts::S,
+            2 => Ts::T,
+            _ => Ts::None,
+        }
+    }
+}
+
 impl Event {
     /// The number of the event's kind, 1 to 19 or 26. [`Kind::of`] gives its row.
     pub const fn kind(self) -> u8 {
@@ -168,7 +195,7 @@ impl Event {
     }
 
     /// Whether it is a TM instruction, which 11 refuses where TM = 0
-    /// (docs/RULES.md, E0.6). mtspr and mfspr are, but for SRR0 and SRR1.
+    /// (docs/RULES.md, E0.6). mtspr and mfspr are with an SPR from 128 to 131.
     ///
     /// ```
     /// use naszeptan::{Event, SPR_SRR0, SPR_TFHAR};
@@ -176,13 +203,14 @@ impl Event {
     /// let get = |spr| Event::Mfspr { rt: 3, spr };
     /// assert!(get(SPR_TFHAR).is_tm() && !get(SPR_TFHAR).is_privileged());
     /// assert!(!get(SPR_SRR0).is_tm() && get(SPR_SRR0).is_privileged());
+    /// assert!(!get(5).is_tm() && !get(5).is_privileged());
     /// assert!(!Event::Rfid.is_tm() && Event::Rfid.is_privileged());
     /// assert!(Event::Trechkpt.is_tm() && Event::Trechkpt.is_privileged());
     /// assert!(!Event::Ld { rt: 3, index: 0 }.is_tm());
     /// ```
     pub fn is_tm(self) -> bool {
         match self {
-            Event::Mtspr { spr, .. } | Event::Mfspr { spr, .. } => !is_srr(spr),
+            Event::Mtspr { spr, .. } | Event::Mfspr { spr, .. } => matches!(spr, 128..=131),
             _ => self.row().tm,
         }
     }
@@ -222,7 +250,7 @@ impl Event {
             Event::Host { pr, tm } => (17, 0, 0, 0, pr as u8 + 2 * tm as u8, 0, 0),
             Event::Rfid => (18, 0, 0, 0, 0, 0, 0),
             Event::Mtmsrd { ts, tm, pr } => {
-                let flags = (ts & 3) + 4 * tm as u8 + 8 * pr as u8;
+                let flags = ts as u8 + 4 * tm as u8 + 8 * pr as u8;
                 (19, 0, 0, 0, flags, 0, 0)
             }
             Event::Tlbie { page } => (26, 0, 0, 0, 0, page, 0),
@@ -279,7 +307,7 @@ impl Event {
             },
             18 => Event::Rfid,
             19 => Event::Mtmsrd {
-                ts: flags & 3,
+                ts: Ts::of(flags),
                 tm: flags & 4 != 0,
                 pr: flags & 8 != 0,
             },

@@ -155,7 +155,8 @@ impl Kind {
                 Bf => write!(f, "cr{value}"),
                 RaOrZero if value == 0 => f.write_str("0"),
                 Rt | RtInRa | Ra | RaOrZero | Rb => write!(f, "r{value}"),
-                To | Spr | Index | Page => write!(f, "{value}"),
+                To | Spr | Index => write!(f, "{value}"),
+                Page => write!(f, "page {value}"),
                 Si => write!(f, "{}", value as i16),
             }?;
         }

@@ -100,7 +100,7 @@ mod transaction;
 pub use answer::{Answer, NoAnswer};
 pub use edition::{Edition, NotConverted};
 pub use ended::Ended;
-pub use event::Event;
+pub use event::{Event, Ts};
 pub use kind::{Kind, Operand, KINDS};
 pub use machine::{Control, Done, Machine, State, Thread};
 #[doc(inline)]

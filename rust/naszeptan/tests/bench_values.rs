@@ -1,7 +1,7 @@
 //! The bench values of docs/RULES.md, K1 to K10 and K14 to K26, through the
 //! archive.
 
-use naszeptan::{Answer, Event, Machine, State, LEVELS, LINE, MEMORY};
+use naszeptan::{Answer, Event, Machine, State, Ts, LEVELS, LINE, MEMORY};
 
 const BEGIN: Event = Event::Tbegin { r: false };
 const ADDI: Event = Event::Addi {
@@ -174,7 +174,7 @@ impl Desk {
 /// By the flags of its record.
 fn mtmsrd(flags: u8) -> Event {
     Event::Mtmsrd {
-        ts: flags & 3,
+        ts: Ts::of(flags),
         tm: flags & 4 != 0,
         pr: flags & 8 != 0,
     }

@@ -1,6 +1,6 @@
 //! Edition two through the archive: its reader, its writer, and the converters.
 
-use naszeptan::{raw, Answer, Edition, Event, NotConverted, Tape};
+use naszeptan::{raw, Answer, Edition, Event, NotConverted, Tape, Ts};
 
 /// A std by thread 0 of register 3 to doubleword 17, in both editions.
 const TWO: [u8; 16] = [0, 0x0D, 0, 3, 0, 0, 0, 0, 0x11, 0, 0, 0, 0, 0, 0, 0];
@@ -69,7 +69,7 @@ fn threads_above_3() {
 #[test]
 fn kinds_above_17() {
     let (tm, pr) = (true, false);
-    for event in [Event::Rfid, Event::Mtmsrd { ts: 2, tm, pr }] {
+    for event in [Event::Rfid, Event::Mtmsrd { ts: Ts::T, tm, pr }] {
         assert_eq!(event.write_in(Edition::Two, 3), Err(Answer::NoKind));
         assert_eq!(event.write_in(Edition::Two, 4), Err(Answer::NoThread));
         let three = event.write_in(Edition::Three, 3).unwrap();

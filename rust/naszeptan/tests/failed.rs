@@ -1,6 +1,6 @@
 //! Which threads failed in a step, through the archive (docs/RULES.md, H8).
 
-use naszeptan::{raw, Answer, Done, Event, Machine, ThreadSet, MEMORY};
+use naszeptan::{raw, Answer, Done, Event, Machine, ThreadSet, Ts, MEMORY};
 
 const TBEGIN: Event = Event::Tbegin { r: false };
 const TABORT: Event = Event::Tabort { ra: 0 };
@@ -155,7 +155,7 @@ fn a_set_by_its_members() {
 /// rfid and mtmsrd tell what fails in T, and what they handle.
 #[test]
 fn rfid_and_mtmsrd() {
-    let (ts, tm, pr) = (2, true, false);
+    let (ts, tm, pr) = (Ts::T, true, false);
     for event in [Event::Rfid, Event::Mtmsrd { ts, tm, pr }] {
         let mut desk = Desk::new();
         desk.spares(0, TBEGIN)

@@ -2,7 +2,7 @@
 
 use std::collections::HashSet;
 
-use naszeptan::{raw, Answer, Edition, Event, Kind, Tape, KINDS};
+use naszeptan::{raw, Answer, Edition, Event, Kind, Tape, Ts, KINDS};
 
 /// The ends of the ranges of register, BF, TO and SPR, and beyond.
 const BYTES: [u8; 8] = [0, 1, 7, 26, 31, 32, 128, 255];
@@ -21,7 +21,11 @@ fn flagged() -> Vec<Event> {
         all.push(Event::Tsr { l: flag });
         for tm in [false, true] {
             all.push(Event::Host { pr: flag, tm });
-            all.extend((0..4).map(|ts| Event::Mtmsrd { ts, tm, pr: flag }));
+            all.extend(
+                (0..4)
+                    .map(Ts::of)
+                    .map(|ts| Event::Mtmsrd { ts, tm, pr: flag }),
+            );
         }
     }
     all
@@ -86,11 +90,10 @@ fn no_two_events_look_alike() {
 #[test]
 fn flags_of_mtmsrd() {
     for (ts, tm, pr, flags) in [
-        (1, false, false, 1),
-        (2, true, false, 6),
-        (0, false, true, 8),
-        (3, true, true, 15),
-        (6, true, false, 6),
+        (Ts::S, false, false, 1),
+        (Ts::T, true, false, 6),
+        (Ts::N, false, true, 8),
+        (Ts::None, true, true, 15),
     ] {
         let event = Event::Mtmsrd { ts, tm, pr };
         assert_eq!(event.to_raw(0).flags, flags);
@@ -106,7 +109,7 @@ fn the_record_of_a_tlbie() {
     let right = [0xE3, 26, 2, 0, 0, 0, 0, 0, 1, 2, 3, 4, 0, 0, 0, 0];
     assert_eq!(event.write_in(Edition::Three, 2), Ok(right));
     assert_eq!(event.write_in(Edition::Two, 2), Err(Answer::NoKind));
-    assert_eq!(event.to_string(), "tlbie 16909060");
+    assert_eq!(event.to_string(), "tlbie page 16909060");
     for x in [
         raw::Event {
             x: 1,
