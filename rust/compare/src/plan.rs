@@ -294,7 +294,7 @@ fn reclaimed(rng: &mut Rng, stage: &Stage, begin: Event) -> Vec<(u8, Event)> {
 
 /// All threads read one line, and then one of them stores to it or does a tlbie
 /// of its page, so that all others fail in one event: that one as it stood, or in
-/// T, in S or doomed, with the line in its own sets or not.
+/// T, in S, doomed or after a commit, with the line in its own sets or not.
 fn shared(rng: &mut Rng, stage: &Stage, count: u8) -> Vec<(u8, Event)> {
     let index = stage.index(0, rng.below(LINE));
     let tlbie = rng.one_in(3);
@@ -312,7 +312,8 @@ fn shared(rng: &mut Rng, stage: &Stage, count: u8) -> Vec<(u8, Event)> {
         _ => enter.to_vec(),
     };
     mine.extend(rng.flag().then_some(load));
-    let ways: [&[Event]; 4] = [&[], &[suspend], &[suspend], &[suspend, abort]];
+    let end = Event::Tend { a: true };
+    let ways: [&[Event]; 5] = [&[], &[suspend], &[suspend], &[suspend, abort], &[end]];
     mine.extend(rng.pick(ways));
     mine.push(match tlbie {
         true => Event::Tlbie {

@@ -484,7 +484,7 @@ fn wrong_invalidations_are_found() {
         (&SPARES_ITSELF, "answer: model 21, proved 0"),
         (&SPARES_READERS, "failed: model"),
         (&HANDLES_IN_S, "answer: model 21, proved 20"),
-        (&HANDLES_OTHERS, "state"),
+        (&HANDLES_OTHERS, "live registers"),
     ] {
         let (case, text) = shrunk(side);
         assert_eq!(kinds(&case).last(), Some(&26), "{text}");

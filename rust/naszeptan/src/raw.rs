@@ -34,6 +34,8 @@ pub const CR_FIELDS: usize = 7;
 pub const LINE_WORDS: usize = 4;
 /// Doublewords of a line.
 pub const LINE: usize = 16;
+/// Lines of a page.
+pub const PAGE: usize = 32;
 /// Doublewords of the largest memory.
 pub const MEMORY: usize = 4096;
 /// Places of a transaction's log.
