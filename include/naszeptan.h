@@ -6,8 +6,7 @@
  * prints nothing and allocates nothing: the machine (6,760 bytes), or a session
  * with one (6,792 bytes), is passed and given back by value; memory, tapes and
  * buffers are lent by pointer and length. Calls from several threads at once
- * are fine where they lend
- * different memory. Leave a call 256 KB of stack.
+ * are fine where they lend different memory. Leave a call 256 KB of stack.
  *
  * Any bits may be handed in. The one thing that a caller must keep: a pointer
  * with its length names that many elements which the call may read (and, if
