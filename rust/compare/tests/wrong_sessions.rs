@@ -192,7 +192,7 @@ fn wrong_pieces_are_found_and_few_are_left() {
     assert_eq!(pieces_left(&text), 1, "{text}");
     let text = in_pieces(&LosesHeld);
     assert!(text.contains("held: model 15, proved 14"), "{text}");
-    assert!(pieces_left(&text) <= 3, "{text}");
+    assert_eq!(pieces_left(&text), 1, "{text}");
     let text = in_pieces(&CountsStop);
     assert!(text.contains("feed, count: model "), "{text}");
     assert_eq!(pieces_left(&text), 1, "{text}");
@@ -259,10 +259,16 @@ impl Side for TakesAnyByte {
         piece: &[u8],
         answers: &mut [u8],
     ) -> Fed {
+        let bytes = s.bytes;
         if let Some(past) = s.bytes.get_mut(s.held..) {
             past.fill(0);
         }
-        Archive.feed(s, memory, piece, answers)
+        let fed = Archive.feed(s, memory, piece, answers);
+        // What is refused for another reason stays as it was: this side is wrong in the bytes alone.
+        if matches!(fed.answer, 1 | 2) {
+            s.bytes = bytes;
+        }
+        fed
     }
 }
 
@@ -325,7 +331,7 @@ impl Side for OpensAll {
 #[test]
 fn wrong_refusals_are_found() {
     let text = of_bits(&TakesAnyByte);
-    assert!(text.starts_with("session of bits: feed"), "{text}");
+    assert!(text.contains("feed: model Fed { answer: 2"), "{text}");
     let text = of_bits(&MarksRefused);
     assert!(text.contains("feed, session's answer: model "), "{text}");
     let text = of_bits(&CountsRefused);
