@@ -1,0 +1,2 @@
+pub mod Doubleword
+pub mod Inner
