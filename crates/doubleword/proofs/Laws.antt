@@ -109,13 +109,27 @@ all-marked j h = all-at (place all-marks) bytes j refl h
 pub merged-all : (old new : ℕ) → new < 2 ^ 64 → merged all-marks old new ≡ new
 merged-all old new h = merged-is all-marks old new new h (λ j l. simp (all-marked j l))
 
--- bytes that are not marked are zero, once and for all
-pub merged-again : (m new : ℕ) → merged m 0 (merged m 0 new) ≡ merged m 0 new
-merged-again m new = merged-is m 0 (merged m 0 new) (merged m 0 new) (merged-lt m 0 new) (λ j l. at j l (place m j) refl)
+-- a merge over a merge: the marks of both, the later one's bytes over the earlier one's
+pub merged-over : (a m old e v : ℕ) → merged (bitOr a m) old (merged m e v) ≡ merged m (merged a old e) v
+merged-over a m old e v =
+    merged-is (bitOr a m) old (merged m e v) _ (merged-lt m (merged a old e) v) (λ j l. at j l (place a j) (place m j) refl refl ∙ sym (merged-byte m (merged a old e) v j l))
   where
-    at : (j : ℕ) → j < bytes → (b : Bool) → place m j ≡ b → chosen m 0 (merged m 0 new) j ≡ byte (merged m 0 new) j
-    at j l true e = simp e
-    at j l false e = simp e (sym (merged-byte m 0 new j l ∙ ap (λ (b : Bool). cond b (byte new j) (byte 0 j)) e))
+    at : (j : ℕ) → j < bytes → (x y : Bool) → place a j ≡ x → place m j ≡ y → chosen (bitOr a m) old (merged m e v) j ≡ chosen m (merged a old e) v j
+    at j l true true p q = simp (or-place, p, q) (merged-byte m e v j l ∙ ap (λ (b : Bool). cond b (byte v j) (byte e j)) q)
+    at j l false true p q = simp (or-place, p, q) (merged-byte m e v j l ∙ ap (λ (b : Bool). cond b (byte v j) (byte e j)) q)
+    at j l true false p q =
+        simp (or-place, p, q)
+        (merged-byte m e v j l ∙ ap (λ (b : Bool). cond b (byte v j) (byte e j)) q
+        ∙ sym (merged-byte a old e j l ∙ ap (λ (b : Bool). cond b (byte e j) (byte old j)) p))
+    at j l false false p q = simp (or-place, p, q) (sym (merged-byte a old e j l ∙ ap (λ (b : Bool). cond b (byte e j) (byte old j)) p))
+
+-- what was merged under the same marks is merged
+pub merged-once : (m old e v : ℕ) → merged m old (merged m e v) ≡ merged m old v
+merged-once m old e v = merged-is m old (merged m e v) _ (merged-lt m old v) (λ j l. at j l (place m j) refl ∙ sym (merged-byte m old v j l))
+  where
+    at : (j : ℕ) → j < bytes → (b : Bool) → place m j ≡ b → chosen m old (merged m e v) j ≡ chosen m old v j
+    at j l true q = simp q (merged-byte m e v j l ∙ ap (λ (b : Bool). cond b (byte v j) (byte e j)) q)
+    at j l false q = simp q
 
 -- ---- merging by masks
 

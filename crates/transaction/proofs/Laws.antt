@@ -12,9 +12,12 @@ use borrow.Author.Tests.{eqb-true, eqb-false, leb-false}
 use lib.Dec.{eqb}
 use lib.ListN.{length, getD, set, length-set}
 use lib.Seq.{getD-set-same, getD-set-other}
+use lib.Bits.{or-zero-l}
+use Rattle.doubleword.specs.Doubleword.{merged}
+use Rattle.doubleword.proofs.Laws.{merged-over, merged-once}
 use Rattle.base.specs.Limits.{most-places}
 use Rattle.lines.specs.Lines as lines
-use Rattle.transaction.specs.Transaction.{entry, line, lookup-in, lookup, loaded, load, full, store-at, store, commit-in, commit}
+use Rattle.transaction.specs.Transaction.{no-entry, entry, line, lookup-in, lookup, loaded, load, full, stored, store-at, store, put, commit-in, commit}
 use Rattle.transaction.specs.declared.Entry.{Entry}
 use Rattle.transaction.specs.declared.Transaction.{Transaction}
 use Rattle.transaction.specs.declared.Found.{Found}
@@ -74,16 +77,21 @@ abbrev pub store-count : Transaction → Found → ℕ
 store-count x (At n) = x .count
 store-count x Absent = x .count + 1
 
+-- what its place held before
+abbrev pub store-over : Transaction → Found → Entry
+store-over x (At n) = entry (x .log) n
+store-over x Absent = no-entry
+
 -- what a store leaves
-pub store-is : (x : Transaction) (f : Found) (i v : ℕ) →
-    store-at x f i v ≡ record { reads = x .reads; writes = lines.with (x .writes) (line i); count = store-count x f; log = set (x .log) (store-place x f) (record { index = i; value = v }) }
+pub store-is : (x : Transaction) (f : Found) (i m v : ℕ) →
+    store-at x f i m v ≡ record { reads = x .reads; writes = lines.with (x .writes) (line i); count = store-count x f; log = set (x .log) (store-place x f) (stored (store-over x f) i m v) }
 unfolding store-at
-store-is x (At n) i v = refl
-store-is x Absent i v = refl
+store-is x (At n) i m v = refl
+store-is x Absent i m v = refl
 
 -- a store changes no place but its own
-pub store-other : (x : Transaction) (f : Found) (i v k : ℕ) → (k ≡ store-place x f → ⊥) → entry (store-at x f i v .log) k ≡ entry (x .log) k
-store-other x f i v k o = simp (store-is, getD-set-other)
+pub store-other : (x : Transaction) (f : Found) (i m v k : ℕ) → (k ≡ store-place x f → ⊥) → entry (store-at x f i m v .log) k ≡ entry (x .log) k
+store-other x f i m v k o = simp (store-is, getD-set-other)
 
 -- a store's place is a used one after it
 pub store-place-below : (x : Transaction) (i : ℕ) → store-place x (lookup x i) < store-count x (lookup x i)
@@ -108,27 +116,28 @@ store-count-most x (At n) few room = few
 store-count-most x Absent few room = omega (arith, leb-false most-places (x .count) room)
 
 -- a store that has room
-module _ (x : Transaction) (i v : ℕ) (size : length (x .log) ≡ most-places) (few : x .count ≤ most-places) (room : full x (lookup x i) ≡ false) where
-  -- a store's place holds what was stored
-  pub store-there : entry (store x i v .log) (store-place x (lookup x i)) ≡ record { index = i; value = v }
+module _ (x : Transaction) (i m v : ℕ) (size : length (x .log) ≡ most-places) (few : x .count ≤ most-places) (room : full x (lookup x i) ≡ false) where
+  -- a store's place holds what was stored, over what it held
+  pub store-there : entry (store x i m v .log) (store-place x (lookup x i)) ≡ stored (store-over x (lookup x i)) i m v
   store-there =
       let h : store-place x (lookup x i) < length (x .log) = omega (arith, store-place-below x i, store-count-most x (lookup x i) few room) in
       simp (store-is, getD-set-same)
 
   -- a place that was used keeps its index
-  pub store-index : (k : ℕ) → k < x .count → entry (store x i v .log) k .index ≡ entry (x .log) k .index
+  pub store-index : (k : ℕ) → k < x .count → entry (store x i m v .log) k .index ≡ entry (x .log) k .index
+  unfolding stored
   store-index k l = go (ℕ-discrete k (store-place x (lookup x i)))
     where
-      go : Dec (k ≡ store-place x (lookup x i)) → entry (store x i v .log) k .index ≡ entry (x .log) k .index
-      go (yes q) = ap (λ (m : ℕ). entry (store x i v .log) m .index) q ∙ ap (λ z. z .index) store-there ∙ sym (store-place-there x i k l q)
-      go (no o) = ap (λ z. z .index) (store-other x (lookup x i) i v k o)
+      go : Dec (k ≡ store-place x (lookup x i)) → entry (store x i m v .log) k .index ≡ entry (x .log) k .index
+      go (yes q) = ap (λ (n : ℕ). entry (store x i m v .log) n .index) q ∙ ap (λ z. z .index) store-there ∙ sym (store-place-there x i k l q)
+      go (no o) = ap (λ z. z .index) (store-other x (lookup x i) i m v k o)
 
   -- after a store a lookup finds the store's place for its doubleword, and for another what it found before
-  pub lookup-store : (j : ℕ) → lookup (store x i v) j ≡ cond (eqb i j) (At (store-place x (lookup x i))) (lookup x j)
-  unfolding lookup-in store-at
-  lookup-store j = go (lookup x i) refl store-there (lookup-same (store x i v .log) (x .log) j (x .count) store-index)
+  pub lookup-store : (j : ℕ) → lookup (store x i m v) j ≡ cond (eqb i j) (At (store-place x (lookup x i))) (lookup x j)
+  unfolding lookup-in store-at stored
+  lookup-store j = go (lookup x i) refl store-there (lookup-same (store x i m v .log) (x .log) j (x .count) store-index)
     where
-      go : (f : Found) → lookup x i ≡ f → entry (store-at x f i v .log) (store-place x f) ≡ record { index = i; value = v } → lookup-in (store-at x f i v .log) j (x .count) ≡ lookup x j → lookup (store-at x f i v) j ≡ cond (eqb i j) (At (store-place x f)) (lookup x j)
+      go : (f : Found) → lookup x i ≡ f → entry (store-at x f i m v .log) (store-place x f) ≡ stored (store-over x f) i m v → lookup-in (store-at x f i m v .log) j (x .count) ≡ lookup x j → lookup (store-at x f i m v) j ≡ cond (eqb i j) (At (store-place x f)) (lookup x j)
       go (At k) e w s = s ∙ found (eqb i j) refl
         where
           found : (b : Bool) → eqb i j ≡ b → lookup x j ≡ cond b (At k) (lookup x j)
@@ -136,19 +145,23 @@ module _ (x : Transaction) (i v : ℕ) (size : length (x .log) ≡ most-places) 
           found false q = refl
       go Absent e w s = rw (add-one, w, s)
 
-  -- a load after a store gives the value stored at the store's doubleword, and at another what it gave before
-  pub load-store : (mem : List ℕ) (j : ℕ) → load (store x i v) mem j ≡ cond (eqb i j) v (load x mem j)
-  unfolding loaded
+  -- a load after a store sees the stored bytes over those that it saw before, and at another doubleword what it saw before
+  pub load-store : (mem : List ℕ) (j : ℕ) → load (store x i m v) mem j ≡ cond (eqb i j) (merged m (load x mem j) v) (load x mem j)
+  unfolding loaded stored
   load-store mem j = rw lookup-store (go (eqb i j) refl)
     where
-      go : (b : Bool) → eqb i j ≡ b → loaded (store x i v .log) mem (cond b (At (store-place x (lookup x i))) (lookup x j)) j ≡ cond b v (load x mem j)
-      go true e = ap (λ z. z .value) store-there
+      own : (f : Found) → lookup x i ≡ f → merged (stored (store-over x f) i m v .marks) (getD mem i 0) (stored (store-over x f) i m v .value) ≡ merged m (loaded (x .log) mem f i) v
+      own (At k) e = merged-over (entry (x .log) k .marks) m (getD mem i 0) (entry (x .log) k .value) v
+      own Absent e = ap (λ (b : ℕ). merged b (getD mem i 0) (merged m 0 v)) (or-zero-l m) ∙ merged-once m (getD mem i 0) 0 v
+
+      go : (b : Bool) → eqb i j ≡ b → loaded (store x i m v .log) mem (cond b (At (store-place x (lookup x i))) (lookup x j)) j ≡ cond b (merged m (load x mem j) v) (load x mem j)
+      go true e = rw (← eqb-true i j e) (ap (λ (z : Entry). merged (z .marks) (getD mem i 0) (z .value)) store-there ∙ own (lookup x i) refl)
       go false e = kept (lookup x j) refl
         where
-          kept : (f : Found) → lookup x j ≡ f → loaded (store x i v .log) mem f j ≡ loaded (x .log) mem f j
+          kept : (f : Found) → lookup x j ≡ f → loaded (store x i m v .log) mem f j ≡ loaded (x .log) mem f j
           kept (At k) p =
               let other : k ≡ store-place x (lookup x i) → ⊥ = λ q. eqb-false i j e (sym (store-place-there x i k (lookup-below (x .log) j (x .count) p) q) ∙ lookup-there (x .log) j (x .count) p) in
-              ap (λ z. z .value) (store-other x (lookup x i) i v k other)
+              ap (λ (z : Entry). merged (z .marks) (getD mem j 0) (z .value)) (store-other x (lookup x i) i m v k other)
           kept Absent p = refl
 
 -- a commit of no places
@@ -157,7 +170,7 @@ unfolding commit-in
 commit-none mem es = refl
 
 -- one turn of the commit, which goes up
-pub commit-step : (mem : List ℕ) (es : List Entry) (n : ℕ) → commit-in mem es (n + 1) ≡ set (commit-in mem es n) (entry es n .index) (entry es n .value)
+pub commit-step : (mem : List ℕ) (es : List Entry) (n : ℕ) → commit-in mem es (n + 1) ≡ put (commit-in mem es n) (entry es n .index) (entry es n .marks) (entry es n .value)
 unfolding commit-in
 commit-step mem es n = ap (commit-in mem es) (add-one n)
 
@@ -167,15 +180,28 @@ unfolding commit-in
 commit-length mem es zero = refl
 commit-length mem es (suc n) = simp (length-set, commit-length mem es n)
 
+-- no place has a doubleword that one before it has (rule V11)
+abbrev pub Apart : List Entry → ℕ → Type 0
+Apart es n = (k : ℕ) → k < n → lookup-in es (entry es k .index) k ≡ Absent
+
 -- a commit leaves at each doubleword what the transaction would load there
-pub commit-at : (mem : List ℕ) (es : List Entry) (n d : ℕ) → d < length mem → getD (commit-in mem es n) d 0 ≡ loaded es mem (lookup-in es d n) d
+pub commit-at : (mem : List ℕ) (es : List Entry) (n d : ℕ) → Apart es n → d < length mem → getD (commit-in mem es n) d 0 ≡ loaded es mem (lookup-in es d n) d
 unfolding commit-in lookup-in loaded
-commit-at mem es zero d h = refl
-commit-at mem es (suc n) d h = go (eqb (entry es n .index) d) refl (commit-at mem es n d h)
+commit-at mem es zero d a h = refl
+commit-at mem es (suc n) d a h = go (eqb (entry es n .index) d) refl (commit-at mem es n d (λ k l. a k (omega arith)) h)
   where
-    go : (b : Bool) → eqb (entry es n .index) d ≡ b → getD (commit-in mem es n) d 0 ≡ loaded es mem (lookup-in es d n) d → getD (set (commit-in mem es n) (entry es n .index) (entry es n .value)) d 0 ≡ loaded es mem (cond b (At n) (lookup-in es d n)) d
-    go true e ih = rw (eqb-true (entry es n .index) d e) (getD-set-same (commit-in mem es n) d _ _ (rw commit-length h))
-    go false e ih = getD-set-other (commit-in mem es n) _ d _ _ (λ q. eqb-false _ _ e (sym q)) ∙ ih
+    e : Entry
+    e = entry es n
+
+    go : (b : Bool) → eqb (e .index) d ≡ b → getD (commit-in mem es n) d 0 ≡ loaded es mem (lookup-in es d n) d → getD (put (commit-in mem es n) (e .index) (e .marks) (e .value)) d 0 ≡ loaded es mem (cond b (At n) (lookup-in es d n)) d
+    go true p ih =
+        let q = eqb-true (e .index) d p in
+        let none = sym (ap (λ (i : ℕ). lookup-in es i n) q) ∙ a n (omega arith) in
+        let was = ih ∙ ap (λ (f : Found). loaded es mem f d) none in
+        ap (λ (i : ℕ). getD (put (commit-in mem es n) i (e .marks) (e .value)) d 0) q
+        ∙ getD-set-same (commit-in mem es n) d _ _ (rw commit-length h)
+        ∙ ap (λ (o : ℕ). merged (e .marks) o (e .value)) was
+    go false p ih = getD-set-other (commit-in mem es n) _ d _ _ (λ q. eqb-false _ _ p (sym q)) ∙ ih
 
 -- a commit of an empty log changes nothing
 pub commit-empty : (x : Transaction) (mem : List ℕ) → x .count ≡ 0 → commit x mem ≡ mem

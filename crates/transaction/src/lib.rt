@@ -5,10 +5,11 @@ ghost use Rattle.transaction.specs.Transaction.{empty, discard};
 use base::PLACES;
 use lines::LineSet;
 
-// A place of the log: a doubleword's index and the value stored to it.
+// A place of the log: a doubleword's index, a mark for each byte that was stored to it, and its bytes, 0 where none was stored.
 #[repr(C)]
 pub struct Entry {
     pub index: u32,
+    pub marks: u8,
     pub value: u64,
 }
 
@@ -47,10 +48,10 @@ pub enum Touch {
     Page(usize),
 }
 
-// What an event writes to memory: nothing, a doubleword, or the log of its thread's transaction.
+// What an event writes to memory: nothing, marked bytes of a doubleword, or the log of its thread's transaction.
 pub enum Write {
     Unwritten,
-    Doubleword { index: u32, value: u64 },
+    Bytes { index: u32, marks: u8, value: u64 },
     Log,
 }
 
@@ -63,7 +64,11 @@ pub fn empty() -> Transaction
         reads: none,
         writes: none,
         count: 0,
-        log: [Entry { index: 0, value: 0 }; PLACES],
+        log: [Entry {
+            index: 0,
+            marks: 0,
+            value: 0,
+        }; PLACES],
     }
 }
 
