@@ -9,7 +9,7 @@ use borrow.Author.Tests.{leb-true, lt-ltb, not-false}
 use Rattle.base.specs.Limits.{line-size, lines, most-places, most-threads}
 use Rattle.base.proofs.Below.{and-left, and-right, all-at, no-number}
 use Rattle.machine.specs.Machine.{thread}
-use Rattle.machine.specs.Valid.{memory-sized, sized, shaped, aligned, fields-small, state-rules, indices-inside, lines-inside, distinct, writes-logged, held-right, thread-valid, thread-right, threads-right, apart, valid, machine-number}
+use Rattle.machine.specs.Valid.{memory-sized, sized, shaped, aligned, fields-small, state-rules, indices-inside, lines-inside, distinct, writes-logged, marks-right, held-right, thread-valid, thread-right, threads-right, apart, valid, machine-number}
 use Rattle.machine.specs.declared.Machine.{Machine}
 use Rattle.machine.proofs.Laws.{unused-count}
 
@@ -50,7 +50,7 @@ module _ (m : Machine) (len : ℕ) (v : valid m len ≡ true) where
       let t = thread (m .threads) w in
       let x = t .transaction in
       let held = and-right (shaped t && aligned (t .control) && fields-small t && state-rules (t .control .msr .state) t) (held-right x len) (valid-thread w h) in
-      unused-count x (and-left _ (indices-inside x len) (and-left _ (lines-inside x len) (and-left _ (distinct x) (and-left _ (writes-logged x) held))))
+      unused-count x (and-left _ (indices-inside x len) (and-left _ (lines-inside x len) (and-left _ (distinct x) (and-left _ (writes-logged x) (and-left _ (marks-right x) held)))))
 
 -- a valid machine is one that the tests 1 and 2 pass
 pub valid-passes : (m : Machine) (len : ℕ) → valid m len ≡ true → machine-number m len ≡ 0

@@ -1,4 +1,4 @@
--- The valid machine, clause by clause (rules V1 to V14).
+-- The valid machine, clause by clause (rules V1 to V15).
 use Prim.Native.Nat.{ℕ, _*_, _%_}
 use mathlib.Core.Bool.{Bool, true, false, not, cond, _&&_, _||_, Bool·beq}
 use lib.Dec.{eqb, leb, ltb}
@@ -8,6 +8,7 @@ use Rattle.base.specs.Limits.{line-size, lines, most-memory, words, most-footpr
 use Rattle.base.specs.Below.{all-below, any-below}
 use Rattle.lines.specs.Lines as lineset
 use Rattle.lines.specs.declared.LineSet.{LineSet}
+use Rattle.doubleword.specs.Doubleword.{only-marked}
 use Rattle.transaction.specs.Transaction.{entry, line, touches}
 use Rattle.transaction.specs.declared.Entry.{Entry}
 use Rattle.transaction.specs.declared.Transaction.{Transaction}
@@ -44,7 +45,7 @@ shaped t =
 
 -- unused log places are zero
 unfoldable pub place-right : Entry → ℕ → ℕ → Bool
-place-right e n count = ltb n count || eqb (e .index) 0 && eqb (e .value) 0
+place-right e n count = ltb n count || eqb (e .index) 0 && eqb (e .marks) 0 && eqb (e .value) 0
 
 unfoldable pub unused-zero : Transaction → Bool
 unused-zero x = leb (x .count) most-places && all-below (λ n. place-right (entry (x .log) n) n (x .count)) most-places
@@ -108,8 +109,15 @@ line-logged x l = Bool·beq (lineset.has (x .writes) l) (logs-line x l)
 unfoldable pub writes-logged : Transaction → Bool
 writes-logged x = all-below (line-logged x) lines
 
+-- a used place has a mark, and its bytes are zero where they have none
+unfoldable pub marked-right : Entry → Bool
+marked-right e = not (eqb (e .marks) 0) && only-marked (e .marks) (e .value)
+
+unfoldable pub marks-right : Transaction → Bool
+marks-right x = all-below (λ n. marked-right (entry (x .log) n)) (x .count)
+
 unfoldable pub held-right : Transaction → ℕ → Bool
-held-right x len = unused-zero x && indices-inside x len && lines-inside x len && distinct x && writes-logged x
+held-right x len = unused-zero x && indices-inside x len && lines-inside x len && distinct x && writes-logged x && marks-right x
 
 unfoldable pub thread-valid : Thread → ℕ → Bool
 thread-valid t len = shaped t && aligned (t .control) && fields-small t && state-rules (t .control .msr .state) t && held-right (t .transaction) len

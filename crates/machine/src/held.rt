@@ -1,11 +1,11 @@
-// What a transaction holds in a valid machine: places, indices, lines (rules V2, V10 to V12), for any value of the struct.
+// What a transaction holds in a valid machine: places, indices, lines, marks (rules V2, V10 to V12, V15), for any value of the struct.
 ghost use mathlib.Core.Path.{_≡_};
 ghost use mathlib.Core.Bool.{not};
 ghost use Prim.Native.Nat.{ℕ, _+_, _<_, _≤_};
 ghost use Rattle.base.specs.Limits.{lines, most-memory, most-places};
 ghost use Rattle.lines.specs.Lines.{has, with};
 ghost use Rattle.machine.specs.Inner.{Seen};
-ghost use Rattle.machine.specs.Valid.{place-right, unused-zero, no-line, holds-nothing, indices-inside, lines-inside, unlike, distinct, logs-line, writes-logged, held-right};
+ghost use Rattle.machine.specs.Valid.{place-right, unused-zero, no-line, holds-nothing, indices-inside, lines-inside, unlike, distinct, logs-line, writes-logged, marked-right, marks-right, held-right};
 use base::LINE;
 use base::LINES;
 use base::MEMORY;
@@ -26,6 +26,9 @@ fn place_right(e: Entry, n: usize, count: usize) -> bool
         return true;
     }
     if e.index != 0 {
+        return false;
+    }
+    if e.marks != 0 {
         return false;
     }
     e.value == 0
@@ -182,7 +185,33 @@ fn writes_logged(x: Transaction) -> bool
     lines::same(w, s)
 }
 
-// What a transaction holds is right: places, indices, lines.
+// A used place has a mark, and its bytes are zero where they have none.
+fn marked_right(e: Entry) -> bool
+    ensures { λ r. ⌜ r ≡ marked-right e ⌝ }
+{
+    if e.marks == 0 {
+        return false;
+    }
+    doubleword::only_marked(e.marks, e.value)
+}
+
+// All used places are so.
+fn marks_right(x: Transaction) -> bool
+    requires { ⌜ x .count ≤ most-places ⌝ }
+    ensures { λ r. ⌜ r ≡ marks-right x ⌝ }
+{
+    let mut n = x.count;
+    while 0 < n {
+        n -= 1;
+        let e = x.log[n];
+        if !marked_right(e) {
+            return false;
+        }
+    }
+    true
+}
+
+// What a transaction holds is right: places, indices, lines, marks.
 pub fn held_right(x: Transaction, len: usize) -> bool
     ensures { λ r. ⌜ r ≡ held-right x len ⌝ }
 {
@@ -198,5 +227,8 @@ pub fn held_right(x: Transaction, len: usize) -> bool
     if !distinct(x) {
         return false;
     }
-    writes_logged(x)
+    if !writes_logged(x) {
+        return false;
+    }
+    marks_right(x)
 }

@@ -55,11 +55,24 @@ writes-logged-requires c κs = counted (c .before .before .before .before .befor
 returns-5 : tie.Need-returns-5
 unfolding held-right
 returns-5 c =
-    let e4 = c .before in
+    let e4 = c .before .before in
     let e3 = e4 .before .before in
     let e2 = e3 .before .before in
     let e1 = e2 .before .before in
-    simp (c .writes-logged .ensures, flag-true (e4 .before .distinct .ensures) (e4 .if4 .left), flag-true (e3 .before .lines-inside .ensures) (e3 .if3 .left), flag-true (e2 .before .indices-inside .ensures) (e2 .if2 .left), flag-true (e1 .before .unused-zero .ensures) (e1 .if1 .left))
+    simp (flag-false (c .before .writes-logged .ensures) (c .if5 .taken), flag-true (e4 .before .distinct .ensures) (e4 .if4 .left), flag-true (e3 .before .lines-inside .ensures) (e3 .if3 .left), flag-true (e2 .before .indices-inside .ensures) (e2 .if2 .left), flag-true (e1 .before .unused-zero .ensures) (e1 .if1 .left))
+
+marks-right-requires : tie.Need-marks-right-requires
+marks-right-requires c κs = counted (c .before .before .before .before .before .before .before .before)
+
+returns-6 : tie.Need-returns-6
+unfolding held-right
+returns-6 c =
+    let e5 = c .before in
+    let e4 = e5 .before .before in
+    let e3 = e4 .before .before in
+    let e2 = e3 .before .before in
+    let e1 = e2 .before .before in
+    simp (c .marks-right .ensures, flag-true (e5 .before .writes-logged .ensures) (e5 .if5 .left), flag-true (e4 .before .distinct .ensures) (e4 .if4 .left), flag-true (e3 .before .lines-inside .ensures) (e3 .if3 .left), flag-true (e2 .before .indices-inside .ensures) (e2 .if2 .left), flag-true (e1 .before .unused-zero .ensures) (e1 .if1 .left))
 
 pub held-right-spec : {M : Type 1} → statement M
 held-right-spec =
@@ -74,4 +87,6 @@ held-right-spec =
     distinct-requires
     returns-4
     writes-logged-requires
-    returns-5)
+    returns-5
+    marks-right-requires
+    returns-6)

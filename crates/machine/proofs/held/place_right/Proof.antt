@@ -14,7 +14,16 @@ returns-2 c = simp (ne-eqb _ _ (c .if2 .taken), le-ltb _ _ (c .before .before .i
 
 returns-3 : tie.Need-returns-3
 unfolding place-right
-returns-3 c = rw (le-ltb _ _ (c .before .before .before .if1 .left), eq-eqb _ _ (c .before .if2 .left))
+returns-3 c =
+    let e2 = c .before .before in
+    simp (ne-eqb _ _ (c .if3 .taken), le-ltb _ _ (e2 .before .before .if1 .left), eq-eqb _ _ (e2 .if2 .left))
+
+returns-4 : tie.Need-returns-4
+unfolding place-right
+returns-4 c =
+    let e3 = c .before in
+    let e2 = e3 .before .before in
+    rw (le-ltb _ _ (e2 .before .before .if1 .left), eq-eqb _ _ (e2 .if2 .left), eq-eqb _ _ (e3 .if3 .left))
 
 pub place-right-spec : {M : Type 1} → statement M
-place-right-spec = tie.close (tie.spec returns returns-2 returns-3)
+place-right-spec = tie.close (tie.spec returns returns-2 returns-3 returns-4)
