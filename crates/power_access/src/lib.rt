@@ -22,6 +22,7 @@ use base::PLACES;
 use base::answer;
 use power_common::place;
 use rows::HEAD;
+use rows::VALUES;
 use rows::Went;
 use thread::State;
 use transaction::Cause;
@@ -44,7 +45,7 @@ fn takes(
     gpr: &mut [u64; GPRS],
     words: &mut [u64; HEAD],
     ix: &[u32; PLACES],
-    vl: &[u64; PLACES],
+    vl: &[u64; VALUES],
     mem: &[u64],
     rt: u8,
     index: u32,
@@ -90,7 +91,7 @@ pub fn ld(
     kcr: &[u8; CR_FIELDS],
     words: &mut [u64; HEAD],
     ix: &[u32; PLACES],
-    vl: &[u64; PLACES],
+    vl: &[u64; VALUES],
     mem: &[u64],
     rt: u8,
     index: u32,
@@ -128,7 +129,7 @@ fn logs(
     kcr: &[u8; CR_FIELDS],
     words: &mut [u64; HEAD],
     ix: &mut [u32; PLACES],
-    vl: &mut [u64; PLACES],
+    vl: &mut [u64; VALUES],
     value: u64,
     index: u32,
 ) -> Went
@@ -184,7 +185,7 @@ pub fn std(
     kcr: &[u8; CR_FIELDS],
     words: &mut [u64; HEAD],
     ix: &mut [u32; PLACES],
-    vl: &mut [u64; PLACES],
+    vl: &mut [u64; VALUES],
     mem: &mut [u64],
     value: u64,
     index: u32,

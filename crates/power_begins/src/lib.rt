@@ -19,6 +19,7 @@ use base::answer;
 use power_common::place;
 use rows::HEAD;
 use rows::Head;
+use rows::VALUES;
 use rows::Went;
 use thread::Control;
 use thread::Failure;
@@ -152,7 +153,7 @@ fn done() -> Went
 pub fn tend(
     words: &mut [u64; HEAD],
     ix: &[u32; PLACES],
-    vl: &[u64; PLACES],
+    vl: &[u64; VALUES],
     mem: &mut [u64],
     a: bool,
 ) -> Went

@@ -18,6 +18,7 @@ use power_aborts::tabortdc;
 use power_aborts::tabortwc;
 use power_common::Did;
 use rows::HEAD;
+use rows::VALUES;
 use rows::Went;
 use thread::Thread;
 use thread::turns::Asked;
@@ -49,7 +50,7 @@ fn by_value(
     kcr: &mut [u8; CR_FIELDS],
     words: &mut [u64; HEAD],
     ix: &mut [u32; PLACES],
-    vl: &mut [u64; PLACES],
+    vl: &mut [u64; VALUES],
     e: Rare,
 ) -> u8
     requires { ⌜ Registered e ⌝ }
@@ -81,7 +82,7 @@ pub fn effect(
     kcr: &mut [u8; CR_FIELDS],
     words: &mut [u64; HEAD],
     ix: &mut [u32; PLACES],
-    vl: &mut [u64; PLACES],
+    vl: &mut [u64; VALUES],
     mem: &mut [u64],
     e: Event,
 ) -> Went

@@ -15,11 +15,12 @@ use Rattle.lines.specs.Lines.{place, word, has}
 use Rattle.lines.specs.Inner.{shared}
 use Rattle.thread.specs.Thread.{with-nia}
 use Rattle.transaction.specs.Transaction.{no-entry, entry}
+use Rattle.transaction.specs.declared.Entry.{Entry}
 use Rattle.base.specs.Below.{bit}
 use Rattle.base.proofs.Below.{bit-test}
 use Rattle.thread.specs.declared.State.{State}
 use Rattle.thread.specs.declared.State.the-variants.{N, T, S}
-use Rattle.rows.specs.Rows.{state-at, state-number, head-of, with-control, with-count, with-reads, with-writes, entry-at, places, log-of, Row, Rows, row, thread-of, threads-of}
+use Rattle.rows.specs.Rows.{state-at, state-number, head-of, with-control, with-count, with-reads, with-writes, entry-in, entry-at, places, log-of, Row, Rows, row, thread-of, threads-of}
 use Rattle.thread.specs.declared.Thread.{Thread}
 use Rattle.machine.specs.Machine.{thread}
 use Rattle.rows.specs.declared.Head.{Head}
@@ -149,63 +150,83 @@ places-at ix vl count at (suc n) (suc k) h = places-at ix vl count (suc at) n k 
 pub log-at : (ix vl : List ℕ) (count k : ℕ) → k < most-places → entry (log-of ix vl count) k ≡ entry-at ix vl count k
 log-at ix vl count k h = places-at ix vl count 0 most-places k h ∙ ap (entry-at ix vl count) (let e : 0 + k ≡ k = omega arith in e)
 
-entry-in : (ix vl : List ℕ) (count k : ℕ) → k < count → entry-at ix vl count k ≡ record { index = getD ix k 0; value = getD vl k 0 }
+in-use : (ix vl : List ℕ) (count k : ℕ) → k < count → entry-at ix vl count k ≡ entry-in ix vl k
 unfolding entry-at
-entry-in ix vl count k h = simp (lt-ltb k count h)
+in-use ix vl count k h = simp (lt-ltb k count h)
 
-entry-out : (ix vl : List ℕ) (count k : ℕ) → count ≤ k → entry-at ix vl count k ≡ no-entry
+past-use : (ix vl : List ℕ) (count k : ℕ) → count ≤ k → entry-at ix vl count k ≡ no-entry
 unfolding entry-at
-entry-out ix vl count k h = simp (le-ltb k count h)
+past-use ix vl count k h = simp (le-ltb k count h)
 
 -- a used place
-pub log-used : (ix vl : List ℕ) (count k : ℕ) → k < count → count ≤ most-places → entry (log-of ix vl count) k ≡ record { index = getD ix k 0; value = getD vl k 0 }
-log-used ix vl count k h m = log-at ix vl count k (omega arith) ∙ entry-in ix vl count k h
+pub log-used : (ix vl : List ℕ) (count k : ℕ) → k < count → count ≤ most-places → entry (log-of ix vl count) k ≡ entry-in ix vl k
+log-used ix vl count k h m = log-at ix vl count k (omega arith) ∙ in-use ix vl count k h
 
 pub log-unused : (ix vl : List ℕ) (count k : ℕ) → count ≤ k → k < most-places → entry (log-of ix vl count) k ≡ no-entry
-log-unused ix vl count k h l = log-at ix vl count k l ∙ entry-out ix vl count k h
+log-unused ix vl count k h l = log-at ix vl count k l ∙ past-use ix vl count k h
 
-module _ (ix vl : List ℕ) (n i v : ℕ) (a : length ix ≡ most-places) (b : length vl ≡ most-places) where
+-- rows that agree with others in every place but one: the log is the others' with that place anew
+pub log-anew : (ix vl jx wl : List ℕ) (n count anew : ℕ) (e : Entry) → n < anew → anew ≤ most-places
+    → entry-in jx wl n ≡ e
+    → ((k : ℕ) → k < most-places → (k ≡ n → ⊥) → entry-at jx wl anew k ≡ entry-at ix vl count k)
+    → log-of jx wl anew ≡ set (log-of ix vl count) n e
+log-anew ix vl jx wl n count anew e h m own other =
+    ext-getD no-entry _ _ (log-length jx wl anew ∙ sym (length-set (log-of ix vl count) n _ ∙ log-length ix vl count))
+    (λ k l. each k (omega (arith, log-length jx wl anew)) (ℕ-discrete k n))
+  where
+    each : (k : ℕ) → k < most-places → Dec (k ≡ n) → entry (log-of jx wl anew) k ≡ entry (set (log-of ix vl count) n e) k
+    each k l (yes q) =
+        ap (entry (log-of jx wl anew)) q ∙ log-used jx wl anew n h m ∙ own
+        ∙ sym (ap (entry (set (log-of ix vl count) n e)) q ∙ getD-set-same (log-of ix vl count) n _ no-entry (omega (arith, log-length ix vl count)))
+    each k l (no o) = log-at jx wl anew k l ∙ other k l o ∙ sym (log-at ix vl count k l) ∙ sym (getD-set-other (log-of ix vl count) n k _ no-entry o)
+
+-- a value and its marks put at a place
+abbrev pub put-value : List ℕ → ℕ → ℕ → ℕ → List ℕ
+put-value vl n m v = set (set vl n v) (most-places + n) m
+
+module _ (ix vl : List ℕ) (n m v : ℕ) (a : length ix ≡ most-places) (b : length vl ≡ 128) where
+  own-value : n < most-places → getD (put-value vl n m v) n 0 ≡ v
+  own-value h = getD-set-other (set vl n v) (most-places + n) n m 0 (λ q. omega arith) ∙ getD-set-same vl n v 0 (omega arith)
+
+  own-marks : n < most-places → getD (put-value vl n m v) (most-places + n) 0 ≡ m
+  own-marks h = getD-set-same (set vl n v) (most-places + n) m 0 (omega (arith, length-set vl n v))
+
+  others-in : n < most-places → (jx : List ℕ) (k : ℕ) → k < most-places → (k ≡ n → ⊥) → getD jx k 0 ≡ getD ix k 0 → entry-in jx (put-value vl n m v) k ≡ entry-in ix vl k
+  others-in h jx k l o e =
+      λ j. record {
+        index = e j;
+        marks = (getD-set-other (set vl n v) (most-places + n) (most-places + k) m 0 (λ q. o (omega arith)) ∙ getD-set-other vl n (most-places + k) v 0 (λ q. omega arith)) j % 2 ^ 8;
+        value = (getD-set-other (set vl n v) (most-places + n) k m 0 (λ q. omega arith) ∙ getD-set-other vl n k v 0 o) j;
+      }
+
   -- an entry more
-  pub log-append : n < most-places → log-of (set ix n i) (set vl n v) (n + 1) ≡ set (log-of ix vl n) n (record { index = i; value = v })
-  log-append h =
-      ext-getD no-entry _ _ (log-length (set ix n i) (set vl n v) (n + 1) ∙ sym (length-set (log-of ix vl n) n _ ∙ log-length ix vl n))
-      (λ k l. each k (omega (arith, log-length (set ix n i) (set vl n v) (n + 1))) (ℕ-discrete k n))
+  pub log-append : (i : ℕ) → n < most-places → log-of (set ix n i) (put-value vl n m v) (n + 1) ≡ set (log-of ix vl n) n (record { index = i; marks = m % 2 ^ 8; value = v })
+  log-append i h =
+      log-anew ix vl (set ix n i) (put-value vl n m v) n n (n + 1) _ (omega arith) (omega arith)
+      (λ j. record { index = getD-set-same ix n i 0 (omega arith) j; marks = own-marks h j % 2 ^ 8; value = own-value h j })
+      (λ k l o. part k l o (leb n k) refl)
     where
-      each : (k : ℕ) → k < most-places → Dec (k ≡ n) → entry (log-of (set ix n i) (set vl n v) (n + 1)) k ≡ entry (set (log-of ix vl n) n (record { index = i; value = v })) k
-      each k l (yes q) =
-          log-used (set ix n i) (set vl n v) (n + 1) k (omega arith) (omega arith)
-          ∙ (λ j. record { index = (ap (λ (m : ℕ). getD (set ix n i) m 0) q ∙ getD-set-same ix n i 0 (omega arith)) j; value = (ap (λ (m : ℕ). getD (set vl n v) m 0) q ∙ getD-set-same vl n v 0 (omega arith)) j })
-          ∙ sym (ap (entry (set (log-of ix vl n) n _)) q ∙ getD-set-same (log-of ix vl n) n _ no-entry (omega (arith, log-length ix vl n)))
-      each k l (no o) = log-at (set ix n i) (set vl n v) (n + 1) k l ∙ part (leb n k) refl ∙ sym (log-at ix vl n k l) ∙ sym (getD-set-other (log-of ix vl n) n k _ no-entry o)
-        where
-          part : (t : Bool) → leb n k ≡ t → entry-at (set ix n i) (set vl n v) (n + 1) k ≡ entry-at ix vl n k
-          part true e =
-              let past : n + 1 ≤ k = omega (arith, leb-true n k e, o) in
-              entry-out _ _ (n + 1) k past ∙ sym (entry-out ix vl n k (leb-true n k e))
-          part false e =
-              entry-in _ _ (n + 1) k (omega (arith, leb-false n k e))
-              ∙ (λ j. record { index = getD-set-other ix n k i 0 o j; value = getD-set-other vl n k v 0 o j })
-              ∙ sym (entry-in ix vl n k (leb-false n k e))
+      part : (k : ℕ) → k < most-places → (k ≡ n → ⊥) → (t : Bool) → leb n k ≡ t → entry-at (set ix n i) (put-value vl n m v) (n + 1) k ≡ entry-at ix vl n k
+      part k l o true e =
+          let past : n + 1 ≤ k = omega (arith, leb-true n k e, o) in
+          past-use _ _ (n + 1) k past ∙ sym (past-use ix vl n k (leb-true n k e))
+      part k l o false e =
+          in-use _ _ (n + 1) k (omega (arith, leb-false n k e))
+          ∙ others-in h (set ix n i) k l o (getD-set-other ix n k i 0 o)
+          ∙ sym (in-use ix vl n k (leb-false n k e))
 
-  -- an entry's value anew
-  pub log-replace : (count : ℕ) → n < count → count ≤ most-places → getD ix n 0 ≡ i → log-of ix (set vl n v) count ≡ set (log-of ix vl count) n (record { index = i; value = v })
-  log-replace count h m at =
-      ext-getD no-entry _ _ (log-length ix (set vl n v) count ∙ sym (length-set (log-of ix vl count) n _ ∙ log-length ix vl count))
-      (λ k l. each k (omega (arith, log-length ix (set vl n v) count)) (ℕ-discrete k n))
+  -- an entry's marks and value anew
+  pub log-replace : (count : ℕ) → n < count → count ≤ most-places → log-of ix (put-value vl n m v) count ≡ set (log-of ix vl count) n (record { index = getD ix n 0; marks = m % 2 ^ 8; value = v })
+  log-replace count h c =
+      let l : n < most-places = omega arith in
+      log-anew ix vl ix (put-value vl n m v) n count count _ h c
+      (λ j. record { index = getD ix n 0; marks = own-marks l j % 2 ^ 8; value = own-value l j })
+      (λ k l o. part k l o (leb count k) refl)
     where
-      each : (k : ℕ) → k < most-places → Dec (k ≡ n) → entry (log-of ix (set vl n v) count) k ≡ entry (set (log-of ix vl count) n (record { index = i; value = v })) k
-      each k l (yes q) =
-          log-used ix (set vl n v) count k (omega arith) m
-          ∙ (λ j. record { index = (ap (λ (m : ℕ). getD ix m 0) q ∙ at) j; value = (ap (λ (m : ℕ). getD (set vl n v) m 0) q ∙ getD-set-same vl n v 0 (omega arith)) j })
-          ∙ sym (ap (entry (set (log-of ix vl count) n _)) q ∙ getD-set-same (log-of ix vl count) n _ no-entry (omega (arith, log-length ix vl count)))
-      each k l (no o) = log-at ix (set vl n v) count k l ∙ part (leb count k) refl ∙ sym (log-at ix vl count k l) ∙ sym (getD-set-other (log-of ix vl count) n k _ no-entry o)
-        where
-          part : (t : Bool) → leb count k ≡ t → entry-at ix (set vl n v) count k ≡ entry-at ix vl count k
-          part true e = entry-out _ _ count k (leb-true count k e) ∙ sym (entry-out ix vl count k (leb-true count k e))
-          part false e =
-              entry-in _ _ count k (leb-false count k e)
-              ∙ (λ j. record { index = getD ix k 0; value = getD-set-other vl n k v 0 o j })
-              ∙ sym (entry-in ix vl count k (leb-false count k e))
+      part : (k : ℕ) → k < most-places → (k ≡ n → ⊥) → (t : Bool) → leb count k ≡ t → entry-at ix (put-value vl n m v) count k ≡ entry-at ix vl count k
+      part k l o true e = past-use _ _ count k (leb-true count k e) ∙ sym (past-use ix vl count k (leb-true count k e))
+      part k l o false e =
+          in-use _ _ count k (leb-false count k e) ∙ others-in (omega arith) ix k l o refl ∙ sym (in-use ix vl count k (leb-false count k e))
 
 -- a list of a known length is its elements
 listed : ℕ → List ℕ → List ℕ

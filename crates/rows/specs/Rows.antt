@@ -1,5 +1,6 @@
--- A thread as rows of numbers: general registers, CR fields 1 to 7, the same of the checkpoint, a row of words, the log's indices and its values.
-use Prim.Native.Nat.{ℕ, zero, suc, _%_, _^_}
+-- A thread as rows of numbers: general registers, CR fields 1 to 7, the same of the checkpoint, a row of words, the log's indices, and its values
+-- with the marks behind them.
+use Prim.Native.Nat.{ℕ, zero, suc, _+_, _%_, _^_}
 use mathlib.Core.Bool.{Bool, true, false, cond}
 use mathlib.Core.List.{List, [], _∷_}
 use lib.Dec.{eqb, ltb}
@@ -61,9 +62,13 @@ with-reads h s = record { control = h .control; cr0 = h .cr0; count = h .count; 
 abbrev pub with-writes : Head → LineSet → Head
 with-writes h s = record { control = h .control; cr0 = h .cr0; count = h .count; reads = h .reads; writes = s }
 
+-- what rows have at place n of a log: marks are their word's low byte
+abbrev pub entry-in : List ℕ → List ℕ → ℕ → Entry
+entry-in ix vl n = record { index = getD ix n 0; marks = getD vl (most-places + n) 0 % 2 ^ 8; value = getD vl n 0 }
+
 -- place n of a log with so many entries: what the rows have past the count does not count
 unfoldable pub entry-at : List ℕ → List ℕ → ℕ → ℕ → Entry
-entry-at ix vl count n = cond (ltb n count) (record { index = getD ix n 0; value = getD vl n 0 }) no-entry
+entry-at ix vl count n = cond (ltb n count) (entry-in ix vl n) no-entry
 
 -- the last n places, the first of them place `at`
 unfoldable pub places : List ℕ → List ℕ → ℕ → ℕ → ℕ → List Entry

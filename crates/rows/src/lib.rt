@@ -38,6 +38,9 @@ pub struct Went {
 // Words of a row: the control registers without SRR0 and SRR1, CR0, the log's count, the read set, the write set, SRR0 and SRR1.
 pub const HEAD: usize = 20;
 
+// A row of the log's values: as many values as places, and behind them as many words with a place's marks in the low byte.
+pub const VALUES: usize = 2 * PLACES;
+
 // The state that a word names, and the word that names it.
 pub fn state_at(n: u64) -> State
     ensures { λ s. ⌜ s ≡ state-at n ⌝ }
@@ -159,7 +162,7 @@ pub fn four_indices(a: [[u32; PLACES]; THREADS])
     ensures { λ _. ⌜ length a ≡ 4 ⌝ }
 {}
 
-pub fn four_values(a: [[u64; PLACES]; THREADS])
+pub fn four_values(a: [[u64; VALUES]; THREADS])
     ensures { λ _. ⌜ length a ≡ 4 ⌝ }
 {}
 
@@ -167,8 +170,8 @@ pub fn indices(a: [u32; PLACES])
     ensures { λ _. ⌜ length a ≡ 64 ⌝ }
 {}
 
-pub fn values(a: [u64; PLACES])
-    ensures { λ _. ⌜ length a ≡ 64 ⌝ }
+pub fn values(a: [u64; VALUES])
+    ensures { λ _. ⌜ length a ≡ 128 ⌝ }
 {}
 
 pub fn head_words(a: [u64; HEAD])

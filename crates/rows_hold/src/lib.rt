@@ -13,6 +13,7 @@ use base::LINE;
 use base::PLACES;
 use rows::HEAD;
 use rows::Head;
+use rows::VALUES;
 use transaction::Found;
 
 // The place of a doubleword among the log's used ones.
@@ -31,7 +32,7 @@ pub fn lookup(ix: &[u32; PLACES], count: usize, index: u32) -> Found
 }
 
 // The log's value for a doubleword if one is there, else memory's.
-pub fn load(ix: &[u32; PLACES], vl: &[u64; PLACES], count: usize, index: u32, mem: &[u64]) -> u64
+pub fn load(ix: &[u32; PLACES], vl: &[u64; VALUES], count: usize, index: u32, mem: &[u64]) -> u64
     requires { ⌜ count ≤ most-places ⌝ }
     requires { ⌜ index < length (now mem) ⌝ }
     ensures { λ v. ⌜ v ≡ loaded (log-of (now (ix .entry)) (now (vl .entry)) count) (now (mem .entry)) (lookup-in (log-of (now (ix .entry)) (now (vl .entry)) count) index count) index ⌝ }
@@ -73,7 +74,7 @@ pub fn full(at: Found, count: usize) -> bool
 pub fn logged(
     words: &mut [u64; HEAD],
     ix: &mut [u32; PLACES],
-    vl: &mut [u64; PLACES],
+    vl: &mut [u64; VALUES],
     at: Found,
     index: u32,
     value: u64,
@@ -108,7 +109,7 @@ fn wide(i: u32) -> usize
 }
 
 // Every log value goes to its doubleword.
-pub fn commit(ix: &[u32; PLACES], vl: &[u64; PLACES], count: usize, mem: &mut [u64])
+pub fn commit(ix: &[u32; PLACES], vl: &[u64; VALUES], count: usize, mem: &mut [u64])
     requires { ⌜ count ≤ most-places ⌝ }
     ensures { λ _. ⌜ now (mem .exit) ≡ commit-in (now (mem .entry)) (log-of (now (ix .entry)) (now (vl .entry)) count) count ⌝ }
 {

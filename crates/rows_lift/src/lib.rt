@@ -13,13 +13,14 @@ use base::GPRS;
 use base::PLACES;
 use rows::HEAD;
 use rows::Head;
+use rows::VALUES;
 use thread::Registers;
 use thread::Thread;
 use transaction::Entry;
 use transaction::Transaction;
 
 // The log of its rows.
-fn gathered(ix: &[u32; PLACES], vl: &[u64; PLACES], count: usize) -> [Entry; PLACES]
+fn gathered(ix: &[u32; PLACES], vl: &[u64; VALUES], count: usize) -> [Entry; PLACES]
     requires { ⌜ count ≤ most-places ⌝ }
     ensures { λ log. ⌜ log ≡ log-of (now (ix .entry)) (now (vl .entry)) count ⌝ }
 {
@@ -54,7 +55,7 @@ pub fn lifted(
     kcr: &[u8; CR_FIELDS],
     words: &[u64; HEAD],
     ix: &[u32; PLACES],
-    vl: &[u64; PLACES],
+    vl: &[u64; VALUES],
 ) -> Thread
     ensures { λ t. ⌜ t ≡ standing (now (gpr .entry)) (now (cr .entry)) (now (kgpr .entry)) (now (kcr .entry)) (now (words .entry)) (now (ix .entry)) (now (vl .entry)) ⌝ }
 {
@@ -84,7 +85,7 @@ pub fn lifted(
 }
 
 // A log into its rows.
-fn scattered(ix: &mut [u32; PLACES], vl: &mut [u64; PLACES], x: Transaction)
+fn scattered(ix: &mut [u32; PLACES], vl: &mut [u64; VALUES], x: Transaction)
     requires { ⌜ unused-zero x ≡ true ⌝ }
     ensures { λ _. ⌜ log-of (now (ix .exit)) (now (vl .exit)) (x .count) ≡ x .log ⌝ }
 {
@@ -106,7 +107,7 @@ pub fn laid(
     kcr: &mut [u8; CR_FIELDS],
     words: &mut [u64; HEAD],
     ix: &mut [u32; PLACES],
-    vl: &mut [u64; PLACES],
+    vl: &mut [u64; VALUES],
     t: Thread,
 )
     requires { ⌜ unused-zero (t .transaction) ≡ true ⌝ }

@@ -13,6 +13,7 @@ use base::PLACES;
 use base::THREADS;
 use machine::Machine;
 use rows::HEAD;
+use rows::VALUES;
 use thread::Thread;
 
 // One thread into the rows.
@@ -23,7 +24,7 @@ fn laid_at(
     kcr: &mut [[u8; CR_FIELDS]; THREADS],
     words: &mut [[u64; HEAD]; THREADS],
     ix: &mut [[u32; PLACES]; THREADS],
-    vl: &mut [[u64; PLACES]; THREADS],
+    vl: &mut [[u64; VALUES]; THREADS],
     w: usize,
     t: Thread,
 )
@@ -58,7 +59,7 @@ fn two_laid_at(
     kcr: &mut [[u8; CR_FIELDS]; THREADS],
     words: &mut [[u64; HEAD]; THREADS],
     ix: &mut [[u32; PLACES]; THREADS],
-    vl: &mut [[u64; PLACES]; THREADS],
+    vl: &mut [[u64; VALUES]; THREADS],
     w: usize,
     t: Thread,
     u: Thread,
@@ -100,7 +101,7 @@ pub fn laid(
     kcr: &mut [[u8; CR_FIELDS]; THREADS],
     words: &mut [[u64; HEAD]; THREADS],
     ix: &mut [[u32; PLACES]; THREADS],
-    vl: &mut [[u64; PLACES]; THREADS],
+    vl: &mut [[u64; VALUES]; THREADS],
     m: Machine,
 )
     requires { ⌜ Clean (m .threads) ⌝ }
@@ -144,7 +145,7 @@ fn lifted_at(
     kcr: &[[u8; CR_FIELDS]; THREADS],
     words: &[[u64; HEAD]; THREADS],
     ix: &[[u32; PLACES]; THREADS],
-    vl: &[[u64; PLACES]; THREADS],
+    vl: &[[u64; VALUES]; THREADS],
     w: usize,
 ) -> Thread
     requires { ⌜ w < most-threads ⌝ }
@@ -169,7 +170,7 @@ pub fn lifted(
     kcr: &[[u8; CR_FIELDS]; THREADS],
     words: &[[u64; HEAD]; THREADS],
     ix: &[[u32; PLACES]; THREADS],
-    vl: &[[u64; PLACES]; THREADS],
+    vl: &[[u64; VALUES]; THREADS],
     count: usize,
 ) -> Machine
     ensures { λ r. ⌜ r ≡ machine-of count (rows (now (gpr .entry)) (now (cr .entry)) (now (kgpr .entry)) (now (kcr .entry)) (now (words .entry)) (now (ix .entry)) (now (vl .entry))) ⌝ }

@@ -18,6 +18,7 @@ use base::THREADS;
 use base::answer;
 use machine::Machine;
 use rows::HEAD;
+use rows::VALUES;
 use tape::RECORD_SIZE;
 use tape::Read;
 
@@ -57,7 +58,7 @@ fn one(
     kcr: &mut [[u8; CR_FIELDS]; THREADS],
     words: &mut [[u64; HEAD]; THREADS],
     ix: &mut [[u32; PLACES]; THREADS],
-    vl: &mut [[u64; PLACES]; THREADS],
+    vl: &mut [[u64; VALUES]; THREADS],
     mem: &mut [u64],
     threads: usize,
     bytes: &[u8],
@@ -117,7 +118,7 @@ fn records(
     kcr: &mut [[u8; CR_FIELDS]; THREADS],
     words: &mut [[u64; HEAD]; THREADS],
     ix: &mut [[u32; PLACES]; THREADS],
-    vl: &mut [[u64; PLACES]; THREADS],
+    vl: &mut [[u64; VALUES]; THREADS],
     mem: &mut [u64],
     threads: usize,
     tape: &[u8],

@@ -18,6 +18,7 @@ use base::THREADS;
 use base::answer;
 use event::Event;
 use rows::HEAD;
+use rows::VALUES;
 use rows::Went;
 
 // The event on its own thread's rows and on memory.
@@ -28,7 +29,7 @@ fn own_at(
     kcr: &mut [[u8; CR_FIELDS]; THREADS],
     words: &mut [[u64; HEAD]; THREADS],
     ix: &mut [[u32; PLACES]; THREADS],
-    vl: &mut [[u64; PLACES]; THREADS],
+    vl: &mut [[u64; VALUES]; THREADS],
     mem: &mut [u64],
     w: usize,
     e: Event,
@@ -65,7 +66,7 @@ fn perform(
     kcr: &mut [[u8; CR_FIELDS]; THREADS],
     words: &mut [[u64; HEAD]; THREADS],
     ix: &mut [[u32; PLACES]; THREADS],
-    vl: &mut [[u64; PLACES]; THREADS],
+    vl: &mut [[u64; VALUES]; THREADS],
     mem: &mut [u64],
     w: usize,
     e: Event,
@@ -100,7 +101,7 @@ pub fn step(
     kcr: &mut [[u8; CR_FIELDS]; THREADS],
     words: &mut [[u64; HEAD]; THREADS],
     ix: &mut [[u32; PLACES]; THREADS],
-    vl: &mut [[u64; PLACES]; THREADS],
+    vl: &mut [[u64; VALUES]; THREADS],
     mem: &mut [u64],
     count: usize,
     thread: u8,
