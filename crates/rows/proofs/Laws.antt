@@ -185,13 +185,13 @@ abbrev pub put-value : List ℕ → ℕ → ℕ → ℕ → List ℕ
 put-value vl n m v = set (set vl n v) (most-places + n) m
 
 module _ (ix vl : List ℕ) (n m v : ℕ) (a : length ix ≡ most-places) (b : length vl ≡ 128) where
-  own-value : n < most-places → getD (put-value vl n m v) n 0 ≡ v
+  pub own-value : n < most-places → getD (put-value vl n m v) n 0 ≡ v
   own-value h = getD-set-other (set vl n v) (most-places + n) n m 0 (λ q. omega arith) ∙ getD-set-same vl n v 0 (omega arith)
 
-  own-marks : n < most-places → getD (put-value vl n m v) (most-places + n) 0 ≡ m
+  pub own-marks : n < most-places → getD (put-value vl n m v) (most-places + n) 0 ≡ m
   own-marks h = getD-set-same (set vl n v) (most-places + n) m 0 (omega (arith, length-set vl n v))
 
-  others-in : n < most-places → (jx : List ℕ) (k : ℕ) → k < most-places → (k ≡ n → ⊥) → getD jx k 0 ≡ getD ix k 0 → entry-in jx (put-value vl n m v) k ≡ entry-in ix vl k
+  pub others-in : n < most-places → (jx : List ℕ) (k : ℕ) → k < most-places → (k ≡ n → ⊥) → getD jx k 0 ≡ getD ix k 0 → entry-in jx (put-value vl n m v) k ≡ entry-in ix vl k
   others-in h jx k l o e =
       λ j. record {
         index = e j;

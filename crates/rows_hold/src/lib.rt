@@ -2,7 +2,7 @@
 ghost use mathlib.Core.Path.{_≡_};
 ghost use mathlib.Core.Bool.{false};
 ghost use mathlib.Core.List.{List};
-ghost use Prim.Native.Nat.{ℕ, _<_, _≤_};
+ghost use Prim.Native.Nat.{ℕ, _%_, _^_, _<_, _≤_};
 ghost use lib.ListN.{length};
 ghost use Rattle.base.specs.Limits.{lines, most-places};
 ghost use Rattle.transaction.specs.Transaction.{line, lookup-in, lookup, loaded, crowded, full, store-at, commit-in};
@@ -31,14 +31,21 @@ pub fn lookup(ix: &[u32; PLACES], count: usize, index: u32) -> Found
     Found::Absent
 }
 
-// The log's value for a doubleword if one is there, else memory's.
+// The marks of a place: their word's low byte.
+fn marks(word: u64) -> u8
+    ensures { λ r. ⌜ r ≡ word % 2 ^ 8 ⌝ }
+{
+    (word % 256) as u8
+}
+
+// The log's marked bytes of a doubleword over memory's.
 pub fn load(ix: &[u32; PLACES], vl: &[u64; VALUES], count: usize, index: u32, mem: &[u64]) -> u64
     requires { ⌜ count ≤ most-places ⌝ }
     requires { ⌜ index < length (now mem) ⌝ }
     ensures { λ v. ⌜ v ≡ loaded (log-of (now (ix .entry)) (now (vl .entry)) count) (now (mem .entry)) (lookup-in (log-of (now (ix .entry)) (now (vl .entry)) count) index count) index ⌝ }
 {
     match lookup(ix, count, index) {
-        Found::At(n) => vl[n],
+        Found::At(n) => doubleword::merged(marks(vl[PLACES + n]), mem[index as usize], vl[n]),
         Found::Absent => mem[index as usize],
     }
 }
@@ -77,25 +84,30 @@ pub fn logged(
     vl: &mut [u64; VALUES],
     at: Found,
     index: u32,
+    bytes: u8,
     value: u64,
 )
     requires { ⌜ head-of (now words) .count ≤ most-places ⌝ }
     requires { ⌜ line index < lines ⌝ }
     requires { ⌜ at ≡ lookup (held (head-of (now words)) (now ix) (now vl)) index ⌝ }
     requires { ⌜ full (held (head-of (now words)) (now ix) (now vl)) at ≡ false ⌝ }
-    ensures { λ _. ⌜ ((gpr cr kgpr kcr : List ℕ) → standing gpr cr kgpr kcr (now (words .exit)) (now (ix .exit)) (now (vl .exit)) ≡ with-transaction (standing gpr cr kgpr kcr (now (words .entry)) (now (ix .entry)) (now (vl .entry))) (store-at (held (head-of (now (words .entry))) (now (ix .entry)) (now (vl .entry))) at index value)) ⌝ }
+    ensures { λ _. ⌜ ((gpr cr kgpr kcr : List ℕ) → standing gpr cr kgpr kcr (now (words .exit)) (now (ix .exit)) (now (vl .exit)) ≡ with-transaction (standing gpr cr kgpr kcr (now (words .entry)) (now (ix .entry)) (now (vl .entry))) (store-at (held (head-of (now (words .entry))) (now (ix .entry)) (now (vl .entry))) at index bytes value)) ⌝ }
 {
     rows::indices(*ix);
     rows::values(*vl);
     rows::join_writes(&mut *words, index as usize / LINE);
     match at {
         Found::At(n) => {
-            vl[n] = value;
+            let old = vl[n];
+            let word = vl[PLACES + n];
+            vl[n] = doubleword::merged(bytes, old, value);
+            vl[PLACES + n] = word | bytes as u64;
         }
         Found::Absent => {
             let n = words[9] as usize;
             ix[n] = index;
-            vl[n] = value;
+            vl[n] = doubleword::merged(bytes, 0, value);
+            vl[PLACES + n] = bytes as u64;
             rows::put_count(&mut *words, n + 1);
         }
     }
@@ -108,7 +120,7 @@ fn wide(i: u32) -> usize
     i as usize
 }
 
-// Every log value goes to its doubleword.
+// Every place's marked bytes go to their doubleword.
 pub fn commit(ix: &[u32; PLACES], vl: &[u64; VALUES], count: usize, mem: &mut [u64])
     requires { ⌜ count ≤ most-places ⌝ }
     ensures { λ _. ⌜ now (mem .exit) ≡ commit-in (now (mem .entry)) (log-of (now (ix .entry)) (now (vl .entry)) count) count ⌝ }
@@ -116,7 +128,8 @@ pub fn commit(ix: &[u32; PLACES], vl: &[u64; VALUES], count: usize, mem: &mut [u
     for i in 0..count {
         let at = wide(ix[i]);
         if at < mem.len() {
-            mem[at] = vl[i];
+            let old = mem[at];
+            mem[at] = doubleword::merged(marks(vl[PLACES + i]), old, vl[i]);
         }
     }
 }

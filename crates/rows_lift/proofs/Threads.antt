@@ -22,7 +22,7 @@ unfolding threads-right thread-right thread-valid zero-thread held-right
 clean m len v w h = go (ltb w (m .count)) (all-at (thread-right m len) most-threads w (valid-threads m len v) h)
   where
     go : (b : Bool) → cond b (thread-valid (thread (m .threads) w) len) (zero-thread (thread (m .threads) w)) ≡ true → unused-zero (thread (m .threads) w .transaction) ≡ true
-    go true p = let z = simp and-eq-true-iff at p in z .1 .0 .0 .0 .0
+    go true p = let z = simp and-eq-true-iff at p in z .1 .0 .0 .0 .0 .0
     go false p = let z = simp and-eq-true-iff at p in z .1
 
 -- four threads are their list

@@ -26,10 +26,15 @@ fn gathered(ix: &[u32; PLACES], vl: &[u64; VALUES], count: usize) -> [Entry; PLA
 {
     rows::indices(*ix);
     rows::values(*vl);
-    let mut log = [Entry { index: 0, value: 0 }; PLACES];
+    let mut log = [Entry {
+        index: 0,
+        marks: 0,
+        value: 0,
+    }; PLACES];
     for n in 0..count {
         log[n] = Entry {
             index: ix[n],
+            marks: (vl[PLACES + n] % 256) as u8,
             value: vl[n],
         };
     }
@@ -96,6 +101,7 @@ fn scattered(ix: &mut [u32; PLACES], vl: &mut [u64; VALUES], x: Transaction)
         let e = x.log[n];
         ix[n] = e.index;
         vl[n] = e.value;
+        vl[PLACES + n] = e.marks as u64;
     }
 }
 

@@ -172,7 +172,7 @@ fn run_valid(m: Machine, mem: &mut [u64], tape: &[u8], answers: &mut [u8]) -> En
     let mut kcr = [[0u8; CR_FIELDS]; THREADS];
     let mut words = [[0u64; HEAD]; THREADS];
     let mut ix = [[0u32; PLACES]; THREADS];
-    let mut vl = [[0u64; PLACES]; THREADS];
+    let mut vl = [[0u64; VALUES]; THREADS];
     rows_lift::machines::laid(
         &mut gpr,
         &mut cr,

@@ -13,6 +13,7 @@ use base::THREADS;
 use event::Event;
 use machine::Machine;
 use rows::HEAD;
+use rows::VALUES;
 
 // A step's answer and the machine after it.
 pub struct Done {
@@ -32,7 +33,7 @@ fn step_valid(m: Machine, mem: &mut [u64], thread: u8, e: Event) -> Done
     let mut kcr = [[0u8; CR_FIELDS]; THREADS];
     let mut words = [[0u64; HEAD]; THREADS];
     let mut ix = [[0u32; PLACES]; THREADS];
-    let mut vl = [[0u64; PLACES]; THREADS];
+    let mut vl = [[0u64; VALUES]; THREADS];
     rows_lift::machines::laid(
         &mut gpr,
         &mut cr,

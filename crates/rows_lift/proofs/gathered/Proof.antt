@@ -1,13 +1,13 @@
 -- `rows_lift::gathered` meets its contract.
 use Prim.Native.Nat.{_-_, _≤_}
 use borrow.Author.Needs.{needs}
-use lib.ListN.{set, getD}
+use lib.ListN.{set}
 use mathlib.Core.List.{List}
 use mathlib.Core.Path.{_≡_, sym, ap, _∙_}
 use native.Mathlib.Omega.{arith}
 use Rattle.rows_lift.proofs.Laws.{log-grow}
 use Rattle.rows.proofs.Laws.{log-none}
-use Rattle.rows.specs.Rows.{log-of}
+use Rattle.rows.specs.Rows.{entry-in, log-of}
 use Rattle.transaction.specs.declared.Entry.{Entry}
 use Rattle.rows_lift.proofs.gathered.Statement.{statement}
 use Rattle.rows_lift.proofs.gathered.Tie as tie
@@ -35,11 +35,23 @@ mul-t11 c = search needs
 element-copy-out-t14 : tie.Need-element-copy-out-t14 Inv-loop μ-loop
 element-copy-out-t14 c = search needs
 
-mul-t15 : tie.Need-mul-t15 Inv-loop μ-loop
-mul-t15 c = search needs
+add-t15 : tie.Need-add-t15 Inv-loop μ-loop
+add-t15 c = search needs
 
-element-copy-out-t18 : tie.Need-element-copy-out-t18 Inv-loop μ-loop
-element-copy-out-t18 c = search needs
+mul-t16 : tie.Need-mul-t16 Inv-loop μ-loop
+mul-t16 c = search needs
+
+element-copy-out-t19 : tie.Need-element-copy-out-t19 Inv-loop μ-loop
+element-copy-out-t19 c = search needs
+
+cast-t21 : tie.Need-cast-t21 Inv-loop μ-loop
+cast-t21 c = search needs
+
+mul-t22 : tie.Need-mul-t22 Inv-loop μ-loop
+mul-t22 c = search needs
+
+element-copy-out-t25 : tie.Need-element-copy-out-t25 Inv-loop μ-loop
+element-copy-out-t25 c = search needs
 
 mul-log : tie.Need-mul-log Inv-loop μ-loop
 mul-log c = search needs
@@ -55,11 +67,11 @@ loop-less c = search needs
 
 loop-again : tie.Need-loop-again Inv-loop μ-loop
 loop-again c =
-    let l = c .before .before .before in
+    let l = c .before .before .before .before in
     let v = l .before in
     let s = v .before .before .before .before in
     let n = l .loop .n in
-    (omega arith, ap (λ (es : List Entry). set es n (record { index = getD (s .args .ix .now) n 0; value = getD (s .args .vl .now) n 0 })) (l .loop .inv .1) ∙ log-grow (s .args .ix .now) (s .args .vl .now) n (v .before .before .indices .ensures) (v .values .ensures) (omega (arith, s .pre)))
+    (omega arith, ap (λ (es : List Entry). set es n (entry-in (s .args .ix .now) (s .args .vl .now) n)) (l .loop .inv .1) ∙ log-grow (s .args .ix .now) (s .args .vl .now) n (v .before .before .indices .ensures) (v .values .ensures) (omega (arith, s .pre)))
 
 returns : tie.Need-returns Inv-loop μ-loop
 returns c =
@@ -77,8 +89,12 @@ gathered-spec =
     loop-holds
     mul-t11
     element-copy-out-t14
-    mul-t15
-    element-copy-out-t18
+    add-t15
+    mul-t16
+    element-copy-out-t19
+    cast-t21
+    mul-t22
+    element-copy-out-t25
     mul-log
     array-set-from-log
     add-n

@@ -1,5 +1,5 @@
 -- `rows_lift::scattered` meets its contract.
-use Prim.Native.Nat.{_-_, _≤_}
+use Prim.Native.Nat.{_-_, _≤_, _<_}
 use borrow.Author.Needs.{needs}
 use lib.ListN.{length, length-set}
 use mathlib.Core.Path.{_≡_, _∙_}
@@ -8,12 +8,13 @@ use native.Mathlib.Omega.{arith}
 use Rattle.base.proofs.Below.{length-parts}
 use Rattle.base.specs.Limits.{most-places}
 use Rattle.rows_lift.proofs.Laws.{Copied, copied-more, copied-all}
+use Rattle.transaction.specs.Transaction.{entry}
 use Rattle.machine.proofs.Laws.{unused-count}
 use Rattle.rows_lift.proofs.scattered.Statement.{statement}
 use Rattle.rows_lift.proofs.scattered.Tie as tie
 
 abbrev Inv-loop : tie.InvT-loop
-Inv-loop ix₀ vl₀ x count n₀ ix vl n = (n ≤ count) × (length ix ≡ most-places) × (length vl ≡ most-places) × Copied (x .log) ix vl n
+Inv-loop ix₀ vl₀ x count n₀ ix vl n = (n ≤ count) × (length ix ≡ most-places) × (length vl ≡ 128) × Copied (x .log) ix vl n
 
 abbrev μ-loop : tie.MeasureT-loop
 μ-loop ix₀ vl₀ x count n₀ ix vl n = count - n
@@ -52,6 +53,18 @@ mul-vl c = omega (arith, few (c .before .before))
 element-write-vl : tie.Need-element-write-vl Inv-loop μ-loop
 element-write-vl c = omega (arith, few (c .before .before))
 
+cast-vl : tie.Need-cast-vl Inv-loop μ-loop
+cast-vl c = search needs
+
+add-vl : tie.Need-add-vl Inv-loop μ-loop
+add-vl c = omega (arith, few (c .before .before .before))
+
+mul-vl-2 : tie.Need-mul-vl-2 Inv-loop μ-loop
+mul-vl-2 c = omega (arith, few (c .before .before .before))
+
+element-write-vl-2 : tie.Need-element-write-vl-2 Inv-loop μ-loop
+element-write-vl-2 c = omega (arith, few (c .before .before .before))
+
 add-n : tie.Need-add-n Inv-loop μ-loop
 add-n c = search needs
 
@@ -60,10 +73,10 @@ loop-less c = search needs
 
 loop-again : tie.Need-loop-again Inv-loop μ-loop
 loop-again c =
-    let l = c .before .before in
+    let l = c .before .before .before in
     let s = l .before .before .before .before .before in
     let n = l .loop .n in
-    (omega arith, length-set (l .loop .ix) n _ ∙ l .loop .inv .1, length-set (l .loop .vl) n _ ∙ l .loop .inv .2, copied-more (s .args .t3 .log) (l .loop .ix) (l .loop .vl) n (l .loop .inv .1) (l .loop .inv .2) (omega (arith, few l, c .before .loop-test .taken)) (l .loop .inv .3))
+    (omega arith, length-set (l .loop .ix) n _ ∙ l .loop .inv .1, simp length-set (l .loop .inv .2), copied-more (s .args .t3 .log) (l .loop .ix) (l .loop .vl) n (l .loop .inv .1) (l .loop .inv .2) (omega (arith, few l)) (omega arith) (l .loop .inv .3))
 
 returns : tie.Need-returns Inv-loop μ-loop
 returns c =
@@ -86,6 +99,10 @@ scattered-spec =
     element-write-ix
     mul-vl
     element-write-vl
+    cast-vl
+    add-vl
+    mul-vl-2
+    element-write-vl-2
     add-n
     loop-less
     loop-again
