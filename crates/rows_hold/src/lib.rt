@@ -5,7 +5,7 @@ ghost use mathlib.Core.List.{List};
 ghost use Prim.Native.Nat.{ℕ, _%_, _^_, _<_, _≤_};
 ghost use lib.ListN.{length};
 ghost use Rattle.base.specs.Limits.{lines, most-places};
-ghost use Rattle.transaction.specs.Transaction.{line, lookup-in, lookup, loaded, crowded, full, store-at, commit-in};
+ghost use Rattle.transaction.specs.Transaction.{line, lookup-in, lookup, loaded, crowded, full, store-at, put, commit-in};
 ghost use Rattle.thread.specs.Thread.{with-transaction};
 ghost use Rattle.rows.specs.Rows.{head-of, log-of, held, standing};
 use base::FOOTPRINT;
@@ -120,6 +120,16 @@ fn wide(i: u32) -> usize
     i as usize
 }
 
+// The marked bytes of a value to a doubleword of memory, if it is there.
+pub fn put(mem: &mut [u64], at: usize, bytes: u8, value: u64)
+    ensures { λ _. ⌜ now (mem .exit) ≡ put (now (mem .entry)) at bytes value ⌝ }
+{
+    if at < mem.len() {
+        let old = mem[at];
+        mem[at] = doubleword::merged(bytes, old, value);
+    }
+}
+
 // Every place's marked bytes go to their doubleword.
 pub fn commit(ix: &[u32; PLACES], vl: &[u64; VALUES], count: usize, mem: &mut [u64])
     requires { ⌜ count ≤ most-places ⌝ }
@@ -127,9 +137,6 @@ pub fn commit(ix: &[u32; PLACES], vl: &[u64; VALUES], count: usize, mem: &mut [u
 {
     for i in 0..count {
         let at = wide(ix[i]);
-        if at < mem.len() {
-            let old = mem[at];
-            mem[at] = doubleword::merged(marks(vl[PLACES + i]), old, vl[i]);
-        }
+        put(&mut *mem, at, marks(vl[PLACES + i]), vl[i]);
     }
 }
