@@ -1,5 +1,9 @@
--- The limits (rules M1 to M11, M16, V1, V9). src/lib.rt has the same numbers for the code.
+-- The limits (rules M1 to M11, M16, M17, V1, V9). src/lib.rt has the same numbers for the code.
 use Prim.Native.Nat.{ℕ, _*_}
+
+-- bytes of a doubleword (rule M17)
+abbrev pub doubleword-bytes : ℕ
+doubleword-bytes = 8
 
 -- doublewords of a line; lines of the largest memory; words of a line set, of 64 lines each
 abbrev pub line-size : ℕ

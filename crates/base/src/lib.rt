@@ -1,10 +1,13 @@
-// The limits (rules M1 to M11, M16, V1, V9). specs/Limits.antt has the same numbers for the definitions: change both together.
+// The limits (rules M1 to M11, M16, M17, V1, V9). specs/Limits.antt has the same numbers for the definitions: change both together.
 
 pub mod answer;
 
 ghost use mathlib.Core.Path.{_≡_};
 ghost use Prim.Native.Nat.{_<_};
 ghost use Rattle.base.specs.Below.{bit};
+
+// Bytes of a doubleword.
+pub const DOUBLEWORD_BYTES: usize = 8;
 
 // Doublewords of a line, and lines of the largest memory.
 pub const LINE: usize = 16;

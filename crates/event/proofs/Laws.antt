@@ -1,16 +1,18 @@
 -- What right operands tell of registers and indices.
 use mathlib.Core.Path.{_≡_}
 use mathlib.Core.Bool.{Bool, true, _&&_}
-use Prim.Native.Nat.{ℕ, _*_, _<_}
+use Prim.Native.Nat.{ℕ, _*_, _/_, _%_, _<_}
 use native.Mathlib.Omega.{arith}
-use borrow.Author.Tests.{ltb-true, leb-true}
-use Rattle.base.specs.Limits.{page-size}
+use lib.Dec.{eqb}
+use borrow.Author.Tests.{eqb-true, ltb-true, leb-true}
+use Rattle.base.specs.Limits.{doubleword-bytes, page-size}
 use Rattle.base.proofs.Below.{and-left, and-right}
-use Rattle.event.specs.Rows.{row, in-range, in-memory, fields-right}
+use Rattle.event.specs.Rows.{row, in-range, addressed, in-memory, fields-right}
 use Rattle.event.specs.Event.{fields-of, kind, operands-right}
 use Rattle.event.specs.declared.Event.{Event}
-use Rattle.event.specs.declared.Event.the-variants.{Tabort, Tabortwc, Tabortdc, Tcheck, Treclaim, Mtspr, Mfspr, Ld, Std, Addi, Tlbie}
+use Rattle.event.specs.declared.Event.the-variants.{Tabort, Tabortwc, Tabortdc, Tcheck, Treclaim, Mtspr, Mfspr, Ld, Std, Addi, Lbz, Lhz, Lwz, Stb, Sth, Stw, Tlbie}
 use Rattle.event.specs.declared.Fields.{Fields}
+use Rattle.event.specs.declared.rows.Use.the-variants.{Gpr}
 use Rattle.event.specs.declared.rows.Row.{Row}
 
 -- the row's four tests
@@ -72,6 +74,36 @@ std-in ra i len p = let t = tests _ len p in (ltb-true ra 32 (t .ra), ltb-true i
 pub addi-registers : (rt ra si len : ℕ) → operands-right (Addi rt ra si) len ≡ true → (rt < 32) × (ra < 32)
 unfolding row kind
 addi-registers rt ra si len p = let t = tests _ len p in (ltb-true rt 32 (t .x), ltb-true ra 32 (t .ra))
+
+-- an access of fewer than eight bytes: its register, its doubleword, and its address by its width
+narrow : (r width a len : ℕ) → in-range Gpr r ≡ true → addressed width a len ≡ true → (r < 32) × (a / doubleword-bytes < len) × (a % width ≡ 0)
+narrow r width a len p q =
+    let l = ltb-true a (doubleword-bytes * len) (and-right (eqb (a % width) 0) _ q) in
+    (ltb-true r 32 p, omega arith, eqb-true (a % width) 0 (and-left (eqb (a % width) 0) _ q))
+
+pub lbz-in : (rt a len : ℕ) → operands-right (Lbz rt a) len ≡ true → (rt < 32) × (a / doubleword-bytes < len) × (a % 1 ≡ 0)
+unfolding row kind
+lbz-in rt a len p = let t = tests _ len p in narrow rt 1 a len (t .x) (t .index)
+
+pub lhz-in : (rt a len : ℕ) → operands-right (Lhz rt a) len ≡ true → (rt < 32) × (a / doubleword-bytes < len) × (a % 2 ≡ 0)
+unfolding row kind
+lhz-in rt a len p = let t = tests _ len p in narrow rt 2 a len (t .x) (t .index)
+
+pub lwz-in : (rt a len : ℕ) → operands-right (Lwz rt a) len ≡ true → (rt < 32) × (a / doubleword-bytes < len) × (a % 4 ≡ 0)
+unfolding row kind
+lwz-in rt a len p = let t = tests _ len p in narrow rt 4 a len (t .x) (t .index)
+
+pub stb-in : (ra a len : ℕ) → operands-right (Stb ra a) len ≡ true → (ra < 32) × (a / doubleword-bytes < len) × (a % 1 ≡ 0)
+unfolding row kind
+stb-in ra a len p = let t = tests _ len p in narrow ra 1 a len (t .ra) (t .index)
+
+pub sth-in : (ra a len : ℕ) → operands-right (Sth ra a) len ≡ true → (ra < 32) × (a / doubleword-bytes < len) × (a % 2 ≡ 0)
+unfolding row kind
+sth-in ra a len p = let t = tests _ len p in narrow ra 2 a len (t .ra) (t .index)
+
+pub stw-in : (ra a len : ℕ) → operands-right (Stw ra a) len ≡ true → (ra < 32) × (a / doubleword-bytes < len) × (a % 4 ≡ 0)
+unfolding row kind
+stw-in ra a len p = let t = tests _ len p in narrow ra 4 a len (t .ra) (t .index)
 
 pub tlbie-in : (p len : ℕ) → operands-right (Tlbie p) len ≡ true → page-size * p < len
 unfolding row kind

@@ -1,9 +1,9 @@
 -- What the match on a kind tells of its row.
-use mathlib.Core.Path.{_≡_, refl, sym, ap, _∙_}
-use Prim.Native.Nat.{ℕ, zero, suc, _+_, _-_, _<_, _≤_}
+use mathlib.Core.Path.{_≡_, sym, ap, _∙_}
+use Prim.Native.Nat.{ℕ, zero, suc, _<_, _≤_}
 use native.Mathlib.Nat.{le-of-suc-le-suc}
 use native.Mathlib.Omega.{arith}
-use native.Mathlib.Decide.{ℕ-discrete, decLt}
+use native.Mathlib.Decide.{ℕ-discrete}
 use lib.ListN.{length, List·getD-eq-default}
 use Rattle.event.specs.Rows.{rows, row, no-row}
 use Rattle.event.specs.declared.rows.Row.{Row}
@@ -30,25 +30,7 @@ unfolding row
 low zero p h = p
 low (suc k) p h = absurd (omega arith)
 
-gap : (j : ℕ) → j < 6 → no-row ≡ row (20 + j)
+pub high : (k : ℕ) {r : Row} → r ≡ no-row → length rows < k → r ≡ row k
 unfolding row
-gap zero h = refl
-gap (suc zero) h = refl
-gap (suc (suc zero)) h = refl
-gap (suc (suc (suc zero))) h = refl
-gap (suc (suc (suc (suc zero)))) h = refl
-gap (suc (suc (suc (suc (suc zero))))) h = refl
-gap (suc (suc (suc (suc (suc (suc j)))))) h = absurd (omega arith)
-
-past-rows : (k : ℕ) → length rows < k → no-row ≡ row k
-unfolding row
-past-rows zero h = absurd (omega arith)
-past-rows (suc k) h = sym (List·getD-eq-default rows no-row (le-of-suc-le-suc h))
-
-pub high : (k : ℕ) {r : Row} → r ≡ no-row → 19 < k → (k ≡ 26 → ⊥) → r ≡ row k
-unfolding row
-high k {r} p h n = go (decLt 26 k)
-  where
-    go : Dec (26 < k) → r ≡ row k
-    go (yes l) = p ∙ past-rows k l
-    go (no l) = p ∙ gap (k - 20) (omega arith) ∙ ap row (let e : 20 + (k - 20) ≡ k = omega arith in e)
+high zero p h = absurd (omega arith)
+high (suc k) p h = p ∙ sym (List·getD-eq-default rows no-row (le-of-suc-le-suc h))

@@ -1,11 +1,11 @@
--- The twenty kinds of event (rules E1 to E19, E26), the fields of each, and what its row tells.
+-- The twenty-six kinds of event (rules E1 to E26), the fields of each, and what its row tells.
 use Prim.Native.Nat.{ℕ, _+_, _*_, _/_, _%_}
 use mathlib.Core.Bool.{Bool, cond}
 use lib.Dec.{eqb}
 use Rattle.base.specs.Below.{bit}
 use Rattle.event.specs.Rows.{row, fields-right, holds}
 use Rattle.event.specs.declared.Event.{Event}
-use Rattle.event.specs.declared.Event.the-variants.{Tbegin, Tend, Tabort, Tabortwc, Tabortdc, Tsr, Tcheck, Treclaim, Trechkpt, Mtspr, Mfspr, Ld, Std, Addi, Disallowed, Interrupt, Host, Rfid, Mtmsrd, Tlbie}
+use Rattle.event.specs.declared.Event.the-variants.{Tbegin, Tend, Tabort, Tabortwc, Tabortdc, Tsr, Tcheck, Treclaim, Trechkpt, Mtspr, Mfspr, Ld, Std, Addi, Disallowed, Interrupt, Host, Rfid, Mtmsrd, Lbz, Lhz, Lwz, Stb, Sth, Stw, Tlbie}
 use Rattle.event.specs.declared.Fields.{Fields}
 
 -- kinds that a refusal names; src/lib.rt has the same numbers for the code
@@ -57,6 +57,12 @@ fields-of w Interrupt = fields 16 w 0 0 0 0 0 0
 fields-of w (Host pr tm) = fields host-kind w 0 0 0 (bit pr + 2 * bit tm) 0 0
 fields-of w Rfid = fields rfid-kind w 0 0 0 0 0 0
 fields-of w (Mtmsrd t s tm pr) = fields mtmsrd-kind w 0 0 0 (bit s + 2 * bit t + 4 * bit tm + 8 * bit pr) 0 0
+fields-of w (Lbz rt a) = fields 20 w rt 0 0 0 a 0
+fields-of w (Lhz rt a) = fields 21 w rt 0 0 0 a 0
+fields-of w (Lwz rt a) = fields 22 w rt 0 0 0 a 0
+fields-of w (Stb ra a) = fields 23 w 0 ra 0 0 a 0
+fields-of w (Sth ra a) = fields 24 w 0 ra 0 0 a 0
+fields-of w (Stw ra a) = fields 25 w 0 ra 0 0 a 0
 fields-of w (Tlbie page) = fields tlbie-kind w 0 0 0 0 page 0
 
 -- the event of fields of a right kind
@@ -81,7 +87,13 @@ event-of f =
     (cond (eqb (f .kind) host-kind) (Host (eqb (f .flags % 2) 1) (eqb (f .flags / 2 % 2) 1))
     (cond (eqb (f .kind) rfid-kind) Rfid
     (cond (eqb (f .kind) mtmsrd-kind) (Mtmsrd (eqb (f .flags / 2 % 2) 1) (eqb (f .flags % 2) 1) (eqb (f .flags / 4 % 2) 1) (eqb (f .flags / 8 % 2) 1))
-    (Tlbie (f .index))))))))))))))))))))
+    (cond (eqb (f .kind) 20) (Lbz (f .x) (f .index))
+    (cond (eqb (f .kind) 21) (Lhz (f .x) (f .index))
+    (cond (eqb (f .kind) 22) (Lwz (f .x) (f .index))
+    (cond (eqb (f .kind) 23) (Stb (f .ra) (f .index))
+    (cond (eqb (f .kind) 24) (Sth (f .ra) (f .index))
+    (cond (eqb (f .kind) 25) (Stw (f .ra) (f .index))
+    (Tlbie (f .index))))))))))))))))))))))))))
 
 -- the number of an event's kind
 unfoldable pub kind : Event → ℕ

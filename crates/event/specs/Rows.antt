@@ -1,18 +1,18 @@
 -- One row for each kind: the fields that it uses and their ranges, its largest flags, whether it is a TM instruction and whether it is
 -- privileged (docs/RULES.md, the table of kinds). The numbers 4, 8, 9, 11 and 12 follow it.
-use Prim.Native.Nat.{ℕ, zero, suc, _*_}
+use Prim.Native.Nat.{ℕ, zero, suc, _*_, _%_}
 use mathlib.Core.Bool.{Bool, true, false, _&&_, _||_}
 use mathlib.Core.List.{List, [], _∷_}
 use lib.Dec.{eqb, leb, ltb}
 use lib.ListN.{getD}
-use Rattle.base.specs.Limits.{gprs, cr-fields, page-size}
+use Rattle.base.specs.Limits.{doubleword-bytes, gprs, cr-fields, page-size}
 use Rattle.event.specs.declared.Fields.{Fields}
 use Rattle.event.specs.declared.rows.Use.{Use}
 use Rattle.event.specs.declared.rows.Use.the-variants.{No, Gpr, To, Bf, Spr}
 use Rattle.event.specs.declared.rows.When.{When}
 use Rattle.event.specs.declared.rows.When.the-variants.{Never, Always, TmSpr, Srr}
 use Rattle.event.specs.declared.rows.Span.{Span}
-use Rattle.event.specs.declared.rows.Span.the-variants.{Without, Doubleword, Page}
+use Rattle.event.specs.declared.rows.Span.the-variants.{Without, Doubleword, Byte, Halfword, Word, Page}
 use Rattle.event.specs.declared.rows.Row.{Row}
 
 abbrev pub line : (x ra rb : Use) (flags : ℕ) (index : Span) (si : Bool) (tm privileged : When) → Row
@@ -45,13 +45,18 @@ rows =
     ∷ line No No No 3 Without false Never Never  -- 17 host: PR + 2 x TM
     ∷ line No No No 0 Without false Never Always  -- 18 rfid
     ∷ line No No No 15 Without false Never Always  -- 19 mtmsrd: TS + 4 x TM + 8 x PR
-    ∷ no-row ∷ no-row ∷ no-row ∷ no-row ∷ no-row ∷ no-row  -- 20 to 25 are no kinds yet
+    ∷ line Gpr No No 0 Byte false Never Never  -- 20 lbz
+    ∷ line Gpr No No 0 Halfword false Never Never  -- 21 lhz
+    ∷ line Gpr No No 0 Word false Never Never  -- 22 lwz
+    ∷ line No Gpr No 0 Byte false Never Never  -- 23 stb
+    ∷ line No Gpr No 0 Halfword false Never Never  -- 24 sth
+    ∷ line No Gpr No 0 Word false Never Never  -- 25 stw
     ∷ line No No No 0 Page false Never Always  -- 26 tlbie
     ∷ []
 
--- number 8: the kinds are those that have a row of their own
+-- number 8: the kinds are those that have a row
 unfoldable pub kind-right : ℕ → Bool
-kind-right k = leb 1 k && leb k 19 || eqb k 26
+kind-right k = leb 1 k && leb k 26
 
 unfoldable pub row : ℕ → Row
 unfolding rows
@@ -82,16 +87,26 @@ in-range To v = ltb v 32
 in-range Bf v = leb v cr-fields
 in-range Spr v = srr v || tm-spr v
 
--- the index field is used: for a doubleword, or for a page
+-- the index field is used: for a doubleword, for the address of a byte, or for a page
 abbrev pub spans : Span → Bool
 spans Without = false
 spans Doubleword = true
+spans Byte = true
+spans Halfword = true
+spans Word = true
 spans Page = true
 
--- number 4: a doubleword is in a memory of len doublewords, and so is the first line of a page (rule M16)
+-- number 4: a byte address in a memory of len doublewords is a multiple of the access's width (rule M17)
+abbrev pub addressed : (width i len : ℕ) → Bool
+addressed width i len = eqb (i % width) 0 && ltb i (doubleword-bytes * len)
+
+-- number 4: a doubleword is in a memory of len doublewords, and so are the bytes at an address, and the first line of a page (rule M16)
 abbrev pub in-memory : Span → ℕ → ℕ → Bool
 in-memory Without i len = true
 in-memory Doubleword i len = ltb i len
+in-memory Byte i len = addressed 1 i len
+in-memory Halfword i len = addressed 2 i len
+in-memory Word i len = addressed 4 i len
 in-memory Page i len = ltb (page-size * i) len
 
 -- number 4: each used field is in range, and what a used index names in a memory of len doublewords

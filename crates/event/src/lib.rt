@@ -1,8 +1,9 @@
-// The twenty kinds of event, each with its operands and nothing else (rules E1 to E19, E26); the fields of each, and a row for each kind.
+// The twenty-six kinds of event, each with its operands and nothing else (rules E1 to E26); the fields of each, and a row for each kind.
 pub mod rows;
 
 ghost use mathlib.Core.Path.{_≡_};
-ghost use Prim.Native.Nat.{_+_, _*_, _≤_};
+ghost use Prim.Native.Nat.{_+_, _*_, _/_, _%_, _≤_};
+ghost use lib.Dec.{eqb};
 ghost use Rattle.base.specs.Below.{bit};
 ghost use Rattle.event.specs.Rows.{row};
 ghost use Rattle.event.specs.Event.{fields, fields-of, event-of, kind, operands-right, tm-instruction, privileged};
@@ -26,6 +27,12 @@ const SPR: Use = Use::Spr;
 const WITHOUT: Span = Span::Without;
 
 const DOUBLEWORD: Span = Span::Doubleword;
+
+const BYTE: Span = Span::Byte;
+
+const HALFWORD: Span = Span::Halfword;
+
+const WORD: Span = Span::Word;
 
 const PAGE: Span = Span::Page;
 
@@ -103,6 +110,30 @@ pub enum Event {
         tm: bool,
         pr: bool,
     },
+    Lbz {
+        rt: u8,
+        address: u32,
+    },
+    Lhz {
+        rt: u8,
+        address: u32,
+    },
+    Lwz {
+        rt: u8,
+        address: u32,
+    },
+    Stb {
+        ra: u8,
+        address: u32,
+    },
+    Sth {
+        ra: u8,
+        address: u32,
+    },
+    Stw {
+        ra: u8,
+        address: u32,
+    },
     Tlbie {
         page: u32,
     },
@@ -159,6 +190,12 @@ pub fn row(kind: u8) -> Row
         17 => line(NO, NO, NO, 3, WITHOUT, false, NEVER, NEVER),
         18 => line(NO, NO, NO, 0, WITHOUT, false, NEVER, ALWAYS),
         19 => line(NO, NO, NO, 15, WITHOUT, false, NEVER, ALWAYS),
+        20 => line(GPR, NO, NO, 0, BYTE, false, NEVER, NEVER),
+        21 => line(GPR, NO, NO, 0, HALFWORD, false, NEVER, NEVER),
+        22 => line(GPR, NO, NO, 0, WORD, false, NEVER, NEVER),
+        23 => line(NO, GPR, NO, 0, BYTE, false, NEVER, NEVER),
+        24 => line(NO, GPR, NO, 0, HALFWORD, false, NEVER, NEVER),
+        25 => line(NO, GPR, NO, 0, WORD, false, NEVER, NEVER),
         26 => line(NO, NO, NO, 0, PAGE, false, NEVER, ALWAYS),
         _ => line(NO, NO, NO, 0, WITHOUT, false, NEVER, NEVER),
     }
@@ -221,8 +258,33 @@ pub fn fields_of(thread: u8, e: Event) -> Fields
         Event::Mtmsrd { t, s, tm, pr } => {
             filled(MTMSRD, thread, 0, 0, 0, asked_flags(t, s, tm, pr), 0, 0)
         }
+        Event::Lbz { rt, address } => filled(20, thread, rt, 0, 0, 0, address, 0),
+        Event::Lhz { rt, address } => filled(21, thread, rt, 0, 0, 0, address, 0),
+        Event::Lwz { rt, address } => filled(22, thread, rt, 0, 0, 0, address, 0),
+        Event::Stb { ra, address } => filled(23, thread, 0, ra, 0, 0, address, 0),
+        Event::Sth { ra, address } => filled(24, thread, 0, ra, 0, 0, address, 0),
+        Event::Stw { ra, address } => filled(25, thread, 0, ra, 0, 0, address, 0),
         Event::Tlbie { page } => filled(TLBIE, thread, 0, 0, 0, 0, page, 0),
     }
+}
+
+// The events whose flags have more than one bit.
+fn host_of(flags: u8) -> Event
+    ensures { λ e. ⌜ e ≡ Event.Host (eqb (flags % 2) 1) (eqb (flags / 2 % 2) 1) ⌝ }
+{
+    let pr = flags % 2 == 1;
+    let tm = flags / 2 % 2 == 1;
+    Event::Host { pr, tm }
+}
+
+fn mtmsrd_of(flags: u8) -> Event
+    ensures { λ e. ⌜ e ≡ Event.Mtmsrd (eqb (flags / 2 % 2) 1) (eqb (flags % 2) 1) (eqb (flags / 4 % 2) 1) (eqb (flags / 8 % 2) 1) ⌝ }
+{
+    let t = flags / 2 % 2 == 1;
+    let s = flags % 2 == 1;
+    let tm = flags / 4 % 2 == 1;
+    let pr = flags / 8 % 2 == 1;
+    Event::Mtmsrd { t, s, tm, pr }
 }
 
 // The event of fields of a right kind.
@@ -234,6 +296,7 @@ pub fn event_of(f: Fields) -> Event
     let ra = f.ra;
     let rb = f.rb;
     let index = f.index;
+    let address = index;
     let si = f.si;
     let flags = f.flags;
     match kind {
@@ -253,19 +316,15 @@ pub fn event_of(f: Fields) -> Event
         14 => Event::Addi { rt: x, ra, si },
         15 => Event::Disallowed,
         16 => Event::Interrupt,
-        17 => {
-            let pr = flags % 2 == 1;
-            let tm = flags / 2 % 2 == 1;
-            Event::Host { pr, tm }
-        }
+        17 => host_of(flags),
         18 => Event::Rfid,
-        19 => {
-            let t = flags / 2 % 2 == 1;
-            let s = flags % 2 == 1;
-            let tm = flags / 4 % 2 == 1;
-            let pr = flags / 8 % 2 == 1;
-            Event::Mtmsrd { t, s, tm, pr }
-        }
+        19 => mtmsrd_of(flags),
+        20 => Event::Lbz { rt: x, address },
+        21 => Event::Lhz { rt: x, address },
+        22 => Event::Lwz { rt: x, address },
+        23 => Event::Stb { ra, address },
+        24 => Event::Sth { ra, address },
+        25 => Event::Stw { ra, address },
         _ => Event::Tlbie { page: index },
     }
 }

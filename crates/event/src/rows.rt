@@ -1,8 +1,10 @@
 // A kind's row: what it uses each field for, and what follows.
 ghost use mathlib.Core.Path.{_≡_};
-ghost use Rattle.event.specs.Rows.{line, used, tm-spr, srr, in-range, spans, in-memory, fields-right, holds};
+ghost use Prim.Native.Nat.{_<_};
+ghost use Rattle.event.specs.Rows.{line, used, tm-spr, srr, in-range, spans, addressed, in-memory, fields-right, holds};
 use crate::Fields;
 use base::CR_FIELDS;
+use base::DOUBLEWORD_BYTES;
 use base::GPRS;
 use base::PAGE;
 
@@ -15,10 +17,13 @@ pub enum Use {
     Spr,
 }
 
-// What a kind's index names: nothing, a doubleword or a page.
+// What a kind's index names: nothing, a doubleword, one, two or four bytes by the first one's address, or a page.
 pub enum Span {
     Without,
     Doubleword,
+    Byte,
+    Halfword,
+    Word,
     Page,
 }
 
@@ -114,17 +119,31 @@ pub fn spans(s: Span) -> bool
     match s {
         Span::Without => false,
         Span::Doubleword => true,
+        Span::Byte => true,
+        Span::Halfword => true,
+        Span::Word => true,
         Span::Page => true,
     }
 }
 
-// A doubleword is in a memory of len doublewords, and so is the first line of a page.
+// A byte address in a memory of len doublewords is a multiple of the access's width. Eight times len could wrap, so the address is divided.
+fn addressed(width: u32, i: u32, len: usize) -> bool
+    requires { ⌜ 0 < width ⌝ }
+    ensures { λ r. ⌜ r ≡ addressed width i len ⌝ }
+{
+    (i % width == 0) & ((i as usize) / DOUBLEWORD_BYTES < len)
+}
+
+// A doubleword is in a memory of len doublewords, and so are the bytes at an address, and the first line of a page.
 fn in_memory(s: Span, i: u32, len: usize) -> bool
     ensures { λ r. ⌜ r ≡ in-memory s i len ⌝ }
 {
     match s {
         Span::Without => true,
         Span::Doubleword => (i as usize) < len,
+        Span::Byte => addressed(1, i, len),
+        Span::Halfword => addressed(2, i, len),
+        Span::Word => addressed(4, i, len),
         Span::Page => PAGE * (i as usize) < len,
     }
 }

@@ -16,7 +16,7 @@ use Rattle.base.proofs.Below.{and-left, and-right, and-intro, digit-bit}
 use Rattle.event.specs.Rows.{kind-right, row, used, spans}
 use Rattle.event.specs.Event.{fields, fields-of, event-of}
 use Rattle.event.specs.declared.Event.{Event}
-use Rattle.event.specs.declared.Event.the-variants.{Tbegin, Tend, Tabort, Tabortwc, Tabortdc, Tsr, Tcheck, Treclaim, Trechkpt, Mtspr, Mfspr, Ld, Std, Addi, Disallowed, Interrupt, Host, Rfid, Mtmsrd, Tlbie}
+use Rattle.event.specs.declared.Event.the-variants.{Tbegin, Tend, Tabort, Tabortwc, Tabortdc, Tsr, Tcheck, Treclaim, Trechkpt, Mtspr, Mfspr, Ld, Std, Addi, Disallowed, Interrupt, Host, Rfid, Mtmsrd, Lbz, Lhz, Lwz, Stb, Sth, Stw, Tlbie}
 use Rattle.event.specs.declared.Fields.{Fields}
 use Rattle.event.specs.declared.rows.Row.{Row}
 use Rattle.tape.specs.Tape.{record-size, first-byte, byte, two, four, fields-at, fixed-zero, bytes, unused-clear, judged, of-kind, read, number, values, write}
@@ -97,6 +97,12 @@ written w (Mtmsrd false false true true) = refl
 written w (Mtmsrd false false true false) = refl
 written w (Mtmsrd false false false true) = refl
 written w (Mtmsrd false false false false) = refl
+written w (Lbz rt a) = refl
+written w (Lhz rt a) = refl
+written w (Lwz rt a) = refl
+written w (Stb ra a) = refl
+written w (Sth ra a) = refl
+written w (Stw ra a) = refl
 written w (Tlbie p) = refl
 
 pub event-kept : EventKept
@@ -134,22 +140,14 @@ kept r k w x ra rb n i si =
 abbrev Keeps : ℕ → Type 0
 Keeps k = (λ w x ra rb n i si. fields-of w (event-of (fields k w x ra rb n i si))) ≡ kept (row k) k
 
-keeps : Each Keeps 19
+keeps : Each Keeps 26
 unfolding row event-of fields-of
-keeps = (((((((((((((((((((tt, refl), refl), refl), refl), refl), refl), refl), refl), refl), refl), refl), refl), refl), refl), refl), refl), refl), refl), refl)
-
-keeps-page : Keeps 26
-unfolding row event-of fields-of
-keeps-page = refl
+keeps = ((((((((((((((((((((((((((tt, refl), refl), refl), refl), refl), refl), refl), refl), refl), refl), refl), refl), refl), refl), refl), refl), refl), refl), refl), refl), refl), refl), refl), refl), refl), refl)
 
 -- so each kind keeps them
 kind-keeps : (k : ℕ) → kind-right k ≡ true → Keeps k
 unfolding kind-right
-kind-keeps k h = go (leb 1 k && leb k 19) refl h
-  where
-    go : (b : Bool) → (leb 1 k && leb k 19) ≡ b → (b || eqb k 26) ≡ true → Keeps k
-    go true e h = each-at Keeps 19 k keeps (leb-true 1 k (and-left (leb 1 k) _ e)) (leb-true k 19 (and-right (leb 1 k) _ e))
-    go false e h = subst Keeps (sym (eqb-true k 26 h)) keeps-page
+kind-keeps k h = each-at Keeps 26 k keeps (leb-true 1 k (and-left (leb 1 k) _ h)) (leb-true k 26 (and-right (leb 1 k) _ h))
 
 -- what is 0 unless it is used
 used-kept : (u : Bool) (v : ℕ) → (u || eqb v 0) ≡ true → cond u v 0 ≡ v

@@ -7,7 +7,7 @@ use native.Mathlib.Omega.{arith}
 use native.Mathlib.Nat.{zero-add}
 use lib.ListN.{length, take, drop}
 use lib.Seq.{sets, sets-eq}
-use borrow.Author.Tests.{le-leb, lt-leb, eq-eqb, ne-eqb, eqb-true}
+use borrow.Author.Tests.{le-leb, lt-leb, eq-eqb, eqb-true}
 use lib.Dec.{eqb}
 use Rattle.event.specs.Event.{event-of}
 use Rattle.event.specs.Rows.{kind-right, row}
@@ -21,24 +21,28 @@ pub begun-right : (bs : List ℕ) → length bs ≡ record-size → byte bs 0 �
 unfolding read
 begun-right bs l b = rw (eq-eqb (length bs) record-size l, eq-eqb (byte bs 0) first-byte b)
 
--- a kind that has a row, and those that have none
-pub kind-in : (f : Fields) (zero : Bool) (r : Read) → r ≡ judged f (zero && unused-clear (row (f .kind)) f)
-    → 1 ≤ f .kind → f .kind ≤ 19 → r ≡ of-kind f zero
-unfolding kind-right of-kind
-kind-in f zero r p lo hi = p ∙ simp (le-leb 1 (f .kind) lo, le-leb (f .kind) 19 hi)
+-- the kinds, and the numbers that are none
+pub kind-in : (k : ℕ) → 1 ≤ k → k ≤ 26 → kind-right k ≡ true
+unfolding kind-right
+kind-in k lo hi = simp (le-leb 1 k lo, le-leb k 26 hi)
 
-pub kind-is : (k : ℕ) (f : Fields) (zero : Bool) (r : Read) → kind-right k ≡ true → f .kind ≡ k
-    → r ≡ judged f (zero && unused-clear (row k) f) → r ≡ of-kind f zero
+pub kind-low : (k : ℕ) → k < 1 → kind-right k ≡ false
+unfolding kind-right
+kind-low k h = simp (lt-leb 1 k h)
+
+pub kind-high : (k : ℕ) → 26 < k → kind-right k ≡ false
+unfolding kind-right
+kind-high k h = let l : 1 ≤ k = omega arith in simp (le-leb 1 k l, lt-leb k 26 h)
+
+-- fields of a kind are judged by its row, and others are refused
+pub of-a-kind : (f : Fields) (zero : Bool) (r : Read) → kind-right (f .kind) ≡ true
+    → r ≡ judged f (zero && unused-clear (row (f .kind)) f) → r ≡ of-kind f zero
 unfolding of-kind
-kind-is k f zero r h e p = p ∙ simp (e, h)
+of-a-kind f zero r h p = p ∙ simp h
 
-pub low : (f : Fields) (zero : Bool) → f .kind < 1 → Refused 8 ≡ of-kind f zero
-unfolding kind-right of-kind
-low f zero h = let n : f .kind ≡ 26 → ⊥ = λ e. omega arith in simp (lt-leb 1 (f .kind) h, ne-eqb (f .kind) 26 n)
-
-pub high : (f : Fields) (zero : Bool) → 19 < f .kind → (f .kind ≡ 26 → ⊥) → Refused 8 ≡ of-kind f zero
-unfolding kind-right of-kind
-high f zero h n = let l : 1 ≤ f .kind = omega arith in simp (le-leb 1 (f .kind) l, lt-leb (f .kind) 19 h, ne-eqb (f .kind) 26 n)
+pub of-no-kind : (f : Fields) (zero : Bool) → kind-right (f .kind) ≡ false → Refused 8 ≡ of-kind f zero
+unfolding of-kind
+of-no-kind f zero h = simp h
 
 -- a record that has no number is of the right length, and its fields tell its thread and its event
 pub taken : (bs : List ℕ) → number (read bs) ≡ 0 → (length bs ≡ record-size) × (read bs ≡ Record (fields-at bs .thread) (event-of (fields-at bs)))

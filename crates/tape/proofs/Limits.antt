@@ -6,7 +6,7 @@ use Prim.Native.Nat.{ℕ, zero, suc, _+_, _-_, _*_, _/_, _%_, _≤_, _<_}
 use native.Mathlib.Omega.{arith}
 use lib.Dec.{eqb, leb}
 use lib.ListN.{getD, length}
-use borrow.Author.Tests.{eq-eqb, ne-eqb, eqb-true, le-leb, lt-leb, leb-true}
+use borrow.Author.Tests.{eq-eqb, eqb-true, le-leb, leb-true}
 use Rattle.base.specs.Below.{all-below}
 use Rattle.base.proofs.Below.{all-at, and-intro, and-left, and-right}
 use Rattle.event.specs.Rows.{rows, kind-right, no-row, row, used, spans}
@@ -16,7 +16,7 @@ use Rattle.tape.specs.FirstBad.{read-number}
 use Rattle.tape.specs.Inner.{most, limits, table, within}
 use Rattle.tape.specs.declared.Read.{Read}
 use Rattle.tape.specs.declared.Read.the-variants.{Record, Refused}
-use Rattle.tape.proofs.Laws.{kind-is}
+use Rattle.tape.proofs.Laws.{of-a-kind}
 
 -- the table has the limits of each kind
 each-row : (rs : List Row) (k : ℕ) → k < length rs → getD (map limits rs) k [] ≡ limits (getD rs k no-row)
@@ -150,7 +150,7 @@ module _ (bs : List ℕ) (small : (i : ℕ) → byte bs i < 256) (l : length bs 
   pub good-in : kind-right (byte bs 1) ≡ true → (eqb (byte bs 0) first-byte && within bs (limits (row (byte bs 1)))) ≡ eqb (read-number bs) 0
   unfolding read within fields-at judged all-below limits
   good-in k =
-      simp (eq-eqb (length bs) record-size l) (ap (λ (w : Bool). eqb (byte bs 0) first-byte && w) (within-clear bs (row (byte bs 1)) small) ∙ go (eqb (byte bs 0) first-byte) (clear bs (row (byte bs 1)) small) _ (sym (kind-is (byte bs 1) (fields-at bs) (fixed-zero bs) _ k refl refl)))
+      simp (eq-eqb (length bs) record-size l) (ap (λ (w : Bool). eqb (byte bs 0) first-byte && w) (within-clear bs (row (byte bs 1)) small) ∙ go (eqb (byte bs 0) first-byte) (clear bs (row (byte bs 1)) small) _ (sym (of-a-kind (fields-at bs) (fixed-zero bs) _ k refl)))
     where
       go : (b c : Bool) (x : Read) → x ≡ judged (fields-at bs) c → (b && c) ≡ eqb (number (cond (not b) (Refused 7) x)) 0
       go true true x e = sym (ap (λ (y : Read). eqb (number y) 0) e)
@@ -164,20 +164,3 @@ module _ (bs : List ℕ) (small : (i : ℕ) → byte bs i < 256) (l : length bs 
       go : (b : Bool) → false ≡ eqb (number (cond (not b) (Refused 7) (Refused 8))) 0
       go true = refl
       go false = refl
-
--- the numbers that are kinds, and those that are none
-pub kind-low : (k : ℕ) → 1 ≤ k → k ≤ 19 → kind-right k ≡ true
-unfolding kind-right
-kind-low k lo hi = simp (le-leb 1 k lo, le-leb k 19 hi)
-
-pub kind-page : (k : ℕ) → k ≡ 26 → kind-right k ≡ true
-unfolding kind-right
-kind-page k e = simp e
-
-pub no-kind-low : (k : ℕ) → k < 1 → kind-right k ≡ false
-unfolding kind-right
-no-kind-low k h = let n : k ≡ 26 → ⊥ = λ e. omega arith in simp (lt-leb 1 k h, ne-eqb k 26 n)
-
-pub no-kind-high : (k : ℕ) → 19 < k → (k ≡ 26 → ⊥) → kind-right k ≡ false
-unfolding kind-right
-no-kind-high k h n = let l : 1 ≤ k = omega arith in simp (le-leb 1 k l, lt-leb k 19 h, ne-eqb k 26 n)

@@ -20,7 +20,7 @@ limits r =
     255 ∷ 255 ∷ 255 ∷ most (used (r .x)) ∷ most (used (r .ra)) ∷ most (used (r .rb)) ∷ r .flags ∷ 0
     ∷ most (spans (r .index)) ∷ most (spans (r .index)) ∷ most (spans (r .index)) ∷ most (spans (r .index)) ∷ most (r .si) ∷ most (r .si) ∷ 0 ∷ 0 ∷ []
 
--- the limits of all kinds, with those of no row between for the numbers that are none
+-- the limits of all kinds, kind 1 first
 unfoldable pub table : List (List ℕ)
 unfolding rows limits
 table = map limits rows

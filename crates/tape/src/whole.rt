@@ -44,7 +44,7 @@ const RA_INDEX: [u8; RECORD_SIZE] = [U, U, U, 0, U, 0, 0, 0, U, U, U, U, 0, 0, 0
 
 const X_RA_SI: [u8; RECORD_SIZE] = [U, U, U, U, U, 0, 0, 0, 0, 0, 0, 0, U, U, 0, 0];
 
-// The limits of each kind, kind 1 first: what the rows say (specs/Inner.antt). 20 to 25 are no kinds, and their limits are not looked at.
+// The limits of each kind, kind 1 first: what the rows say (specs/Inner.antt).
 const LIMITS: [[u8; RECORD_SIZE]; KINDS] = [
     FLAG,
     FLAG,
@@ -65,12 +65,12 @@ const LIMITS: [[u8; RECORD_SIZE]; KINDS] = [
     FLAGS,
     PLAIN,
     MSR,
-    PLAIN,
-    PLAIN,
-    PLAIN,
-    PLAIN,
-    PLAIN,
-    PLAIN,
+    X_INDEX,
+    X_INDEX,
+    X_INDEX,
+    RA_INDEX,
+    RA_INDEX,
+    RA_INDEX,
     INDEX,
 ];
 
@@ -108,8 +108,7 @@ fn good(s: &[u8], limits: &[[u8; RECORD_SIZE]; KINDS]) -> bool
     let first = s[0];
     let kind = s[1];
     match kind {
-        1..=19 => (first == FIRST_BYTE) & fits(s, limits, kind),
-        26 => (first == FIRST_BYTE) & fits(s, limits, kind),
+        1..=26 => (first == FIRST_BYTE) & fits(s, limits, kind),
         _ => false,
     }
 }

@@ -148,6 +148,42 @@ enum-known-e-16 c = search needs
 filled-requires-20 : tie.Need-filled-requires-20
 filled-requires-20 c κs = search needs
 
+enum-known-e-17 : tie.Need-enum-known-e-17
+enum-known-e-17 c = search needs
+
+filled-requires-21 : tie.Need-filled-requires-21
+filled-requires-21 c κs = search needs
+
+enum-known-e-18 : tie.Need-enum-known-e-18
+enum-known-e-18 c = search needs
+
+filled-requires-22 : tie.Need-filled-requires-22
+filled-requires-22 c κs = search needs
+
+enum-known-e-19 : tie.Need-enum-known-e-19
+enum-known-e-19 c = search needs
+
+filled-requires-23 : tie.Need-filled-requires-23
+filled-requires-23 c κs = search needs
+
+enum-known-e-20 : tie.Need-enum-known-e-20
+enum-known-e-20 c = search needs
+
+filled-requires-24 : tie.Need-filled-requires-24
+filled-requires-24 c κs = search needs
+
+enum-known-e-21 : tie.Need-enum-known-e-21
+enum-known-e-21 c = search needs
+
+filled-requires-25 : tie.Need-filled-requires-25
+filled-requires-25 c κs = search needs
+
+enum-known-e-22 : tie.Need-enum-known-e-22
+enum-known-e-22 c = search needs
+
+filled-requires-26 : tie.Need-filled-requires-26
+filled-requires-26 c κs = search needs
+
 returns : tie.Need-returns
 unfolding fields-of
 returns c = simp (c .filled .ensures, c .before .flag .ensures .0, c .before .before .before .e .given .1)
@@ -228,6 +264,30 @@ returns-20 : tie.Need-returns-20
 unfolding fields-of
 returns-20 c = simp (c .filled20 .ensures, c .before .before .e16 .given .1)
 
+returns-21 : tie.Need-returns-21
+unfolding fields-of
+returns-21 c = simp (c .filled21 .ensures, c .before .before .e17 .given .1)
+
+returns-22 : tie.Need-returns-22
+unfolding fields-of
+returns-22 c = simp (c .filled22 .ensures, c .before .before .e18 .given .1)
+
+returns-23 : tie.Need-returns-23
+unfolding fields-of
+returns-23 c = simp (c .filled23 .ensures, c .before .before .e19 .given .1)
+
+returns-24 : tie.Need-returns-24
+unfolding fields-of
+returns-24 c = simp (c .filled24 .ensures, c .before .before .e20 .given .1)
+
+returns-25 : tie.Need-returns-25
+unfolding fields-of
+returns-25 c = simp (c .filled25 .ensures, c .before .before .e21 .given .1)
+
+returns-26 : tie.Need-returns-26
+unfolding fields-of
+returns-26 c = simp (c .filled26 .ensures, c .before .before .e22 .given .1)
+
 pub fields-of-spec : {M : Type 1} → statement M
 fields-of-spec =
     tie.close
@@ -280,6 +340,18 @@ fields-of-spec =
     filled-requires-19
     enum-known-e-16
     filled-requires-20
+    enum-known-e-17
+    filled-requires-21
+    enum-known-e-18
+    filled-requires-22
+    enum-known-e-19
+    filled-requires-23
+    enum-known-e-20
+    filled-requires-24
+    enum-known-e-21
+    filled-requires-25
+    enum-known-e-22
+    filled-requires-26
     returns
     returns-2
     returns-3
@@ -299,4 +371,10 @@ fields-of-spec =
     returns-17
     returns-18
     returns-19
-    returns-20)
+    returns-20
+    returns-21
+    returns-22
+    returns-23
+    returns-24
+    returns-25
+    returns-26)

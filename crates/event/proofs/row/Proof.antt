@@ -57,6 +57,24 @@ line-requires-16 c κs = search needs
 line-requires-17 : tie.Need-line-requires-17
 line-requires-17 c κs = search needs
 
+line-requires-18 : tie.Need-line-requires-18
+line-requires-18 c κs = search needs
+
+line-requires-19 : tie.Need-line-requires-19
+line-requires-19 c κs = search needs
+
+line-requires-20 : tie.Need-line-requires-20
+line-requires-20 c κs = search needs
+
+line-requires-21 : tie.Need-line-requires-21
+line-requires-21 c κs = search needs
+
+line-requires-22 : tie.Need-line-requires-22
+line-requires-22 c κs = search needs
+
+line-requires-23 : tie.Need-line-requires-23
+line-requires-23 c κs = search needs
+
 returns : tie.Need-returns
 unfolding row
 returns c = chosen 3 (c .line .ensures) (c .before .match .keys1)
@@ -103,44 +121,68 @@ returns-11 c = chosen 19 (c .line11 .ensures) (c .before .match .keys11)
 
 returns-12 : tie.Need-returns-12
 unfolding row
-returns-12 c = chosen 26 (c .line12 .ensures) (c .before .match .keys12)
+returns-12 c = chosen 20 (c .line12 .ensures) (c .before .match .keys12)
 
 returns-13 : tie.Need-returns-13
 unfolding row
-returns-13 c =
-    neighbour 1 _ (chosen 1 (c .line13 .ensures)) (chosen 2 (c .line13 .ensures))
-    (c .before .before .if1 .left)
-    (c .before .if2 .taken)
+returns-13 c = chosen 21 (c .line13 .ensures) (c .before .match .keys13)
 
 returns-14 : tie.Need-returns-14
 unfolding row
-returns-14 c =
-    let r = c .before .before .before .before .match .rest in
-    neighbour 4 _ (chosen 4 (c .line14 .ensures)) (chosen 5 (c .line14 .ensures))
-    (past 3 _ (c .before .before .if2 .left) (r .0 .0 .0 .0 .0 .0 .0 .0 .0 .0 .0 .1))
-    (c .before .if3 .taken)
+returns-14 c = chosen 22 (c .line14 .ensures) (c .before .match .keys14)
 
 returns-15 : tie.Need-returns-15
 unfolding row
-returns-15 c =
-    let r = c .before .before .before .before .before .match .rest in
-    neighbour 10 _ (chosen 10 (c .line15 .ensures)) (chosen 11 (c .line15 .ensures))
-    (past 9 _ (past 8 _ (past 7 _ (past 6 _ (c .before .before .if3 .left) (r .0 .0 .0 .0 .0 .0 .0 .0 .0 .0 .1)) (r .0 .0 .0 .0 .0 .0 .0 .0 .0 .1)) (r .0 .0 .0 .0 .0 .0 .0 .0 .1)) (r .0 .0 .0 .0 .0 .0 .0 .1))
-    (c .before .if4 .taken)
+returns-15 c = chosen 23 (c .line15 .ensures) (c .before .match .keys15)
 
 returns-16 : tie.Need-returns-16
 unfolding row
-returns-16 c =
-    let r = c .before .before .before .before .before .before .match .rest in
-    neighbour 15 _ (chosen 15 (c .line16 .ensures)) (chosen 16 (c .line16 .ensures))
-    (past 14 _ (past 13 _ (past 12 _ (c .before .before .if4 .left) (r .0 .0 .0 .0 .0 .0 .1)) (r .0 .0 .0 .0 .0 .1)) (r .0 .0 .0 .0 .1))
-    (c .before .if5 .taken)
+returns-16 c = chosen 24 (c .line16 .ensures) (c .before .match .keys16)
 
 returns-17 : tie.Need-returns-17
 unfolding row
-returns-17 c =
+returns-17 c = chosen 25 (c .line17 .ensures) (c .before .match .keys17)
+
+returns-18 : tie.Need-returns-18
+unfolding row
+returns-18 c = chosen 26 (c .line18 .ensures) (c .before .match .keys18)
+
+returns-19 : tie.Need-returns-19
+unfolding row
+returns-19 c =
+    neighbour 1 _ (chosen 1 (c .line19 .ensures)) (chosen 2 (c .line19 .ensures))
+    (c .before .before .if1 .left)
+    (c .before .if2 .taken)
+
+returns-20 : tie.Need-returns-20
+unfolding row
+returns-20 c =
+    let r = c .before .before .before .before .match .rest in
+    neighbour 4 _ (chosen 4 (c .line20 .ensures)) (chosen 5 (c .line20 .ensures))
+    (past 3 _ (c .before .before .if2 .left) (r .0 .0 .0 .0 .0 .0 .0 .0 .0 .0 .0 .0 .0 .0 .0 .0 .0 .1))
+    (c .before .if3 .taken)
+
+returns-21 : tie.Need-returns-21
+unfolding row
+returns-21 c =
+    let r = c .before .before .before .before .before .match .rest in
+    neighbour 10 _ (chosen 10 (c .line21 .ensures)) (chosen 11 (c .line21 .ensures))
+    (past 9 _ (past 8 _ (past 7 _ (past 6 _ (c .before .before .if3 .left) (r .0 .0 .0 .0 .0 .0 .0 .0 .0 .0 .0 .0 .0 .0 .0 .0 .1)) (r .0 .0 .0 .0 .0 .0 .0 .0 .0 .0 .0 .0 .0 .0 .0 .1)) (r .0 .0 .0 .0 .0 .0 .0 .0 .0 .0 .0 .0 .0 .0 .1)) (r .0 .0 .0 .0 .0 .0 .0 .0 .0 .0 .0 .0 .0 .1))
+    (c .before .if4 .taken)
+
+returns-22 : tie.Need-returns-22
+unfolding row
+returns-22 c =
+    let r = c .before .before .before .before .before .before .match .rest in
+    neighbour 15 _ (chosen 15 (c .line22 .ensures)) (chosen 16 (c .line22 .ensures))
+    (past 14 _ (past 13 _ (past 12 _ (c .before .before .if4 .left) (r .0 .0 .0 .0 .0 .0 .0 .0 .0 .0 .0 .0 .1)) (r .0 .0 .0 .0 .0 .0 .0 .0 .0 .0 .0 .1)) (r .0 .0 .0 .0 .0 .0 .0 .0 .0 .0 .1))
+    (c .before .if5 .taken)
+
+returns-23 : tie.Need-returns-23
+unfolding row
+returns-23 c =
     let r = c .before .before .match .rest in
-    ⊎-elim (λ w. low _ (c .line17 .ensures) (w .taken)) (λ w. high _ (c .line17 .ensures) (past 19 _ (past 18 _ (past 17 _ (w .4 .left) (r .0 .0 .0 .1)) (r .0 .0 .1)) (r .0 .1)) (r .1))
+    ⊎-elim (λ w. low _ (c .line23 .ensures) (w .taken)) (λ w. high _ (c .line23 .ensures) (past 26 _ (past 25 _ (past 24 _ (past 23 _ (past 22 _ (past 21 _ (past 20 _ (past 19 _ (past 18 _ (past 17 _ (w .4 .left) (r .0 .0 .0 .0 .0 .0 .0 .0 .0 .1)) (r .0 .0 .0 .0 .0 .0 .0 .0 .1)) (r .0 .0 .0 .0 .0 .0 .0 .1)) (r .0 .0 .0 .0 .0 .0 .1)) (r .0 .0 .0 .0 .0 .1)) (r .0 .0 .0 .0 .1)) (r .0 .0 .0 .1)) (r .0 .0 .1)) (r .0 .1)) (r .1)))
     (c .before .if1 .came)
 
 pub row-spec : {M : Type 1} → statement M
@@ -164,6 +206,12 @@ row-spec =
     line-requires-15
     line-requires-16
     line-requires-17
+    line-requires-18
+    line-requires-19
+    line-requires-20
+    line-requires-21
+    line-requires-22
+    line-requires-23
     returns
     returns-2
     returns-3
@@ -180,4 +228,10 @@ row-spec =
     returns-14
     returns-15
     returns-16
-    returns-17)
+    returns-17
+    returns-18
+    returns-19
+    returns-20
+    returns-21
+    returns-22
+    returns-23)

@@ -7,7 +7,8 @@ use native.Mathlib.Omega.{arith}
 use lib.Dec.{eqb}
 use Rattle.event.specs.Rows.{rows}
 use Rattle.tape.specs.Tape.{byte, first-byte}
-use Rattle.tape.proofs.Limits.{good-in, good-out, kind-low, kind-page, no-kind-low, no-kind-high}
+use Rattle.tape.proofs.Laws.{kind-in, kind-low, kind-high}
+use Rattle.tape.proofs.Limits.{good-in, good-out}
 use borrow.Author.Needs.{needs}
 use Rattle.tape.proofs.whole.good.Statement.{statement}
 use Rattle.tape.proofs.whole.good.Tie as tie
@@ -25,46 +26,29 @@ shared-slice-read-kind c = search needs
 fits-requires : tie.Need-fits-requires
 unfolding rows
 fits-requires c κs =
-    let s = c .before .before .before .before in
-    let e = c .match .keys1 in
-    (s .pre .0, (s .pre .1, (omega (arith, e), omega (arith, e))))
-
-fits-requires-2 : tie.Need-fits-requires-2
-unfolding rows
-fits-requires-2 c κs =
-    let s = c .before .before .before .before .before .before in
+    let s = c .before .before .before .before .before in
     (s .pre .0, (s .pre .1, (c .before .if1 .left, omega (arith, c .if2 .taken))))
 
 returns : tie.Need-returns
 returns c =
-    let m = c .before in
-    let k = m .before in
+    let t = c .before in
+    let k = t .before .before in
     let s = k .before .before .before in
     let bs = s .args .s .now in
     ap (λ (b : Bool). eqb (byte bs 0) first-byte && b) (c .fits2 .ensures)
-    ∙ good-in bs (small k) (s .pre .0) (kind-page (byte bs 1) (m .match .keys1))
+    ∙ good-in bs (small k) (s .pre .0) (kind-in (byte bs 1) (t .before .if1 .left) (le-of-suc-le-suc (t .if2 .taken)))
 
 returns-2 : tie.Need-returns-2
 returns-2 c =
-    let t = c .before in
-    let k = t .before .before .before in
+    let k = c .before in
     let s = k .before .before .before in
-    let bs = s .args .s .now in
-    ap (λ (b : Bool). eqb (byte bs 0) first-byte && b) (c .fits3 .ensures)
-    ∙ good-in bs (small k) (s .pre .0) (kind-low (byte bs 1) (t .before .if1 .left) (le-of-suc-le-suc (t .if2 .taken)))
+    good-out (s .args .s .now) (small k) (s .pre .0) (kind-low _ (c .if1 .taken))
 
 returns-3 : tie.Need-returns-3
 returns-3 c =
     let k = c .before .before in
     let s = k .before .before .before in
-    good-out (s .args .s .now) (small k) (s .pre .0) (no-kind-low _ (c .if1 .taken))
-
-returns-4 : tie.Need-returns-4
-returns-4 c =
-    let m = c .before .before in
-    let k = m .before in
-    let s = k .before .before .before in
-    good-out (s .args .s .now) (small k) (s .pre .0) (no-kind-high _ (c .if2 .left) (m .match .rest .1))
+    good-out (s .args .s .now) (small k) (s .pre .0) (kind-high _ (c .if2 .left))
 
 pub good-spec : {M : Type 1} → statement M
 good-spec =
@@ -73,8 +57,6 @@ good-spec =
     shared-slice-read-first
     shared-slice-read-kind
     fits-requires
-    fits-requires-2
     returns
     returns-2
-    returns-3
-    returns-4)
+    returns-3)
