@@ -3,12 +3,13 @@
 use Prim.Native.Nat.{ℕ, zero, suc, _+_, _-_, _*_, _/_, _%_, _^_}
 use mathlib.Core.Bool.{Bool, cond, _||_}
 use lib.Dec.{eqb}
+use Rattle.base.specs.Limits.{doubleword-bytes}
 use Rattle.base.specs.Below.{all-below}
 use Rattle.lines.specs.Lines.{place}
 
 -- bytes of a doubleword, and the marks of all of them
 abbrev pub bytes : ℕ
-bytes = 8
+bytes = doubleword-bytes
 
 abbrev pub all-marks : ℕ
 all-marks = 255

@@ -4,10 +4,11 @@ ghost use mathlib.Core.Path.{_≡_};
 ghost use Prim.Native.Nat.{_+_, _%_, _<_, _≤_};
 ghost use Rattle.doubleword.specs.Doubleword.{bytes, merged, only-marked, lowest, part, marks-of, placed};
 ghost use Rattle.doubleword.specs.Inner.{spread};
+use base::DOUBLEWORD_BYTES;
 
-// Bytes of a doubleword, and the marks of all of them.
-pub const BYTES: u32 = 8;
+const BYTES: u32 = DOUBLEWORD_BYTES as u32;
 
+// The marks of all eight bytes.
 pub const ALL: u8 = 255;
 
 // A byte of ones for each mark, without a loop.

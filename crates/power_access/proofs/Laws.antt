@@ -11,31 +11,31 @@ use Rattle.thread.specs.declared.State.{State}
 use Rattle.thread.specs.declared.State.the-variants.{N, T, S}
 use Rattle.thread.specs.declared.Thread.{Thread}
 use Rattle.power_common.specs.Common.{quiet, passes, fails}
-use Rattle.power_access.specs.Access.{takes, joins, loads, ld, stores, logs}
+use Rattle.power_access.specs.Access.{takes, joins, loads, load, stores, logs}
 use Rattle.power_access.specs.Inner.{joining}
 
-module _ (t : Thread) (rt i : ℕ) (mem : List ℕ) where
+module _ (t : Thread) (rt i b w : ℕ) (mem : List ℕ) where
   -- a load that does not join the read set
-  pub ld-apart : (s : State) → joining s (t .control) ≡ false → ld s t rt i mem ≡ loads (takes t rt i mem) i
-  unfolding joining ld
-  ld-apart N p = refl
-  ld-apart T p = ap (λ (b : Bool). cond (b && transaction.load-overflows (t .transaction) i) (quiet (fails t Footprint)) (loads (takes (cond b (joins t i) t) rt i mem) i)) p
-  ld-apart S p = refl
+  pub load-apart : (s : State) → joining s (t .control) ≡ false → load s t rt i b w mem ≡ loads (takes t rt i b w mem) i
+  unfolding joining load
+  load-apart N p = refl
+  load-apart T p = ap (λ (x : Bool). cond (x && transaction.load-overflows (t .transaction) i) (quiet (fails t Footprint)) (loads (takes (cond x (joins t i) t) rt i b w mem) i)) p
+  load-apart S p = refl
 
   -- a load that joins it
-  pub ld-joins : (s : State) → joining s (t .control) ≡ true
-      → ld s t rt i mem ≡ cond (transaction.crowded (t .transaction) (transaction.line i)) (quiet (fails t Footprint)) (loads (takes (joins t i) rt i mem) i)
-  unfolding joining ld
-  ld-joins N p = absurd (false≢true p)
-  ld-joins T p = ap (λ (b : Bool). cond (b && transaction.load-overflows (t .transaction) i) (quiet (fails t Footprint)) (loads (takes (cond b (joins t i) t) rt i mem) i)) p
-  ld-joins S p = absurd (false≢true p)
+  pub load-joins : (s : State) → joining s (t .control) ≡ true
+      → load s t rt i b w mem ≡ cond (transaction.crowded (t .transaction) (transaction.line i)) (quiet (fails t Footprint)) (loads (takes (joins t i) rt i b w mem) i)
+  unfolding joining load
+  load-joins N p = absurd (false≢true p)
+  load-joins T p = ap (λ (x : Bool). cond (x && transaction.load-overflows (t .transaction) i) (quiet (fails t Footprint)) (loads (takes (cond x (joins t i) t) rt i b w mem) i)) p
+  load-joins S p = absurd (false≢true p)
 
-module _ (t : Thread) (v i : ℕ) where
+module _ (t : Thread) (i m v : ℕ) where
   -- a store in T: no room for the line, none in the log, or room
   pub logs-is : (a b : Bool) → transaction.crowded (t .transaction) (transaction.line i) ≡ a → transaction.full (t .transaction) (transaction.lookup (t .transaction) i) ≡ b
-      → logs t v i ≡ cond (a || b) (quiet (fails t Footprint)) (stores (passes (with-transaction t (transaction.store (t .transaction) i v))) i Unwritten)
+      → logs t i m v ≡ cond (a || b) (quiet (fails t Footprint)) (stores (passes (with-transaction t (transaction.store (t .transaction) i m v))) i Unwritten)
   unfolding logs
-  logs-is a b p q = λ j. cond (p j || q j) (quiet (fails t Footprint)) (stores (passes (with-transaction t (transaction.store (t .transaction) i v))) i Unwritten)
+  logs-is a b p q = λ j. cond (p j || q j) (quiet (fails t Footprint)) (stores (passes (with-transaction t (transaction.store (t .transaction) i m v))) i Unwritten)
 
-  pub logs-crowded : transaction.crowded (t .transaction) (transaction.line i) ≡ true → logs t v i ≡ quiet (fails t Footprint)
+  pub logs-crowded : transaction.crowded (t .transaction) (transaction.line i) ≡ true → logs t i m v ≡ quiet (fails t Footprint)
   logs-crowded p = logs-is true _ p refl

@@ -1,19 +1,22 @@
-// ld and std (rules A1, A2 and A4), each on its thread's rows and on memory. tlbie: `page`.
+// A load and a store of some bytes of a doubleword (rules A1, A2 and A4), each on its thread's rows and on memory. ld and std are all eight.
+// lbz to stw: `narrow`. tlbie: `page`.
+pub mod narrow;
 pub mod page;
 
 ghost use mathlib.Core.Path.{_≡_};
 ghost use mathlib.Core.List.{List};
-ghost use Prim.Native.Nat.{ℕ, _<_, _≤_};
+ghost use Prim.Native.Nat.{ℕ, _+_, _<_, _≤_};
 ghost use lib.ListN.{length};
 ghost use Rattle.base.specs.Answers as answer;
 ghost use Rattle.base.specs.Limits.{lines, most-places, gprs};
+ghost use Rattle.doubleword.specs.Doubleword.{bytes};
 ghost use Rattle.transaction.specs.Transaction.{line, touches};
 ghost use Rattle.transaction.specs.declared.Cause.the-variants.{Footprint};
 ghost use Rattle.transaction.specs.declared.Transaction.{Transaction};
 ghost use Rattle.rows.specs.Rows.{head-of, held, standing};
 ghost use Rattle.rows.specs.Landed.{landed};
 ghost use Rattle.power_common.specs.Common.{did, quiet, fails};
-ghost use Rattle.power_access.specs.Access.{takes, ld, logs, meets-own, std};
+ghost use Rattle.power_access.specs.Access.{takes, load, logs, meets-own, store};
 ghost use Rattle.power_access.specs.Inner.{joining};
 use base::CR_FIELDS;
 use base::GPRS;
@@ -40,7 +43,7 @@ fn joining(words: &[u64; HEAD]) -> bool
     }
 }
 
-// The register takes what the thread sees at a doubleword.
+// The register takes what the thread sees at some bytes of a doubleword.
 fn takes(
     gpr: &mut [u64; GPRS],
     words: &mut [u64; HEAD],
@@ -49,14 +52,19 @@ fn takes(
     mem: &[u64],
     rt: u8,
     index: u32,
+    low: u32,
+    width: u32,
 )
     requires { ⌜ head-of (now words) .count ≤ most-places ⌝ }
     requires { ⌜ rt < gprs ⌝ }
     requires { ⌜ index < length (now mem) ⌝ }
-    ensures { λ _. ⌜ ((cr kgpr kcr : List ℕ) → did answer.done (standing (now (gpr .exit)) cr kgpr kcr (now (words .exit)) (now (ix .entry)) (now (vl .entry))) ≡ takes (standing (now (gpr .entry)) cr kgpr kcr (now (words .entry)) (now (ix .entry)) (now (vl .entry))) rt index (now (mem .entry))) ⌝ }
+    requires { ⌜ 0 < width ⌝ }
+    requires { ⌜ low + width ≤ bytes ⌝ }
+    ensures { λ _. ⌜ ((cr kgpr kcr : List ℕ) → did answer.done (standing (now (gpr .exit)) cr kgpr kcr (now (words .exit)) (now (ix .entry)) (now (vl .entry))) ≡ takes (standing (now (gpr .entry)) cr kgpr kcr (now (words .entry)) (now (ix .entry)) (now (vl .entry))) rt index low width (now (mem .entry))) ⌝ }
 {
     let count = words[9] as usize;
-    gpr[rt as usize] = rows_hold::load(ix, vl, count, index, mem);
+    let seen = rows_hold::load(ix, vl, count, index, mem);
+    gpr[rt as usize] = doubleword::part(low, width, seen);
     place::passes(&mut *words);
 }
 
@@ -83,8 +91,8 @@ fn overflowed(
     }
 }
 
-// ld (RT, index): the overflow, which only a load that joins has, is found before anything is done.
-pub fn ld(
+// A load: the overflow, which only one that joins has, is found before anything is done.
+pub fn load(
     gpr: &mut [u64; GPRS],
     cr: &mut [u8; CR_FIELDS],
     kgpr: &[u64; GPRS],
@@ -95,12 +103,16 @@ pub fn ld(
     mem: &[u64],
     rt: u8,
     index: u32,
+    low: u32,
+    width: u32,
 ) -> Went
     requires { ⌜ head-of (now words) .count ≤ most-places ⌝ }
     requires { ⌜ rt < gprs ⌝ }
     requires { ⌜ line index < lines ⌝ }
     requires { ⌜ index < length (now mem) ⌝ }
-    ensures { λ r. ⌜ record { answer = r .answer; thread = standing (now (gpr .exit)) (now (cr .exit)) (now (kgpr .entry)) (now (kcr .entry)) (now (words .exit)) (now (ix .entry)) (now (vl .entry)); touch = r .touch; memory = now (mem .entry) } ≡ landed (ld (head-of (now (words .entry)) .control .msr .state) (standing (now (gpr .entry)) (now (cr .entry)) (now (kgpr .entry)) (now (kcr .entry)) (now (words .entry)) (now (ix .entry)) (now (vl .entry))) rt index (now (mem .entry))) (held (head-of (now (words .entry))) (now (ix .entry)) (now (vl .entry))) (now (mem .entry)) ⌝ }
+    requires { ⌜ 0 < width ⌝ }
+    requires { ⌜ low + width ≤ bytes ⌝ }
+    ensures { λ r. ⌜ record { answer = r .answer; thread = standing (now (gpr .exit)) (now (cr .exit)) (now (kgpr .entry)) (now (kcr .entry)) (now (words .exit)) (now (ix .entry)) (now (vl .entry)); touch = r .touch; memory = now (mem .entry) } ≡ landed (load (head-of (now (words .entry)) .control .msr .state) (standing (now (gpr .entry)) (now (cr .entry)) (now (kgpr .entry)) (now (kcr .entry)) (now (words .entry)) (now (ix .entry)) (now (vl .entry))) rt index low width (now (mem .entry))) (held (head-of (now (words .entry))) (now (ix .entry)) (now (vl .entry))) (now (mem .entry)) ⌝ }
 {
     let line = index as usize / LINE;
     if joining(&*words) {
@@ -108,20 +120,20 @@ pub fn ld(
             return overflowed(&mut *gpr, &mut *cr, kgpr, kcr, &mut *words);
         }
         rows::join_reads(&mut *words, line);
-        takes(&mut *gpr, &mut *words, ix, vl, mem, rt, index);
+        takes(&mut *gpr, &mut *words, ix, vl, mem, rt, index, low, width);
         return Went {
             answer: answer::DONE,
             touch: Touch::Load(line),
         };
     }
-    takes(&mut *gpr, &mut *words, ix, vl, mem, rt, index);
+    takes(&mut *gpr, &mut *words, ix, vl, mem, rt, index, low, width);
     Went {
         answer: answer::DONE,
         touch: Touch::Load(line),
     }
 }
 
-// std in T: to the log, and no memory changes.
+// A store in T: to the log, and no memory changes.
 fn logs(
     gpr: &mut [u64; GPRS],
     cr: &mut [u8; CR_FIELDS],
@@ -130,12 +142,13 @@ fn logs(
     words: &mut [u64; HEAD],
     ix: &mut [u32; PLACES],
     vl: &mut [u64; VALUES],
-    value: u64,
     index: u32,
+    marks: u8,
+    value: u64,
 ) -> Went
     requires { ⌜ head-of (now words) .count ≤ most-places ⌝ }
     requires { ⌜ line index < lines ⌝ }
-    ensures { λ r. ⌜ ((mem : List ℕ) → record { answer = r .answer; thread = standing (now (gpr .exit)) (now (cr .exit)) (now (kgpr .entry)) (now (kcr .entry)) (now (words .exit)) (now (ix .exit)) (now (vl .exit)); touch = r .touch; memory = mem } ≡ landed (logs (standing (now (gpr .entry)) (now (cr .entry)) (now (kgpr .entry)) (now (kcr .entry)) (now (words .entry)) (now (ix .entry)) (now (vl .entry))) value index) (held (head-of (now (words .entry))) (now (ix .entry)) (now (vl .entry))) mem) ⌝ }
+    ensures { λ r. ⌜ ((mem : List ℕ) → record { answer = r .answer; thread = standing (now (gpr .exit)) (now (cr .exit)) (now (kgpr .entry)) (now (kcr .entry)) (now (words .exit)) (now (ix .exit)) (now (vl .exit)); touch = r .touch; memory = mem } ≡ landed (logs (standing (now (gpr .entry)) (now (cr .entry)) (now (kgpr .entry)) (now (kcr .entry)) (now (words .entry)) (now (ix .entry)) (now (vl .entry))) index marks value) (held (head-of (now (words .entry))) (now (ix .entry)) (now (vl .entry))) mem) ⌝ }
 {
     let line = index as usize / LINE;
     if rows_hold::crowded(&*words, line) {
@@ -146,7 +159,7 @@ fn logs(
     if rows_hold::full(at, count) {
         return overflowed(&mut *gpr, &mut *cr, kgpr, kcr, &mut *words);
     }
-    rows_hold::logged(&mut *words, &mut *ix, &mut *vl, at, index, value);
+    rows_hold::logged(&mut *words, &mut *ix, &mut *vl, at, index, marks, value);
     place::passes(&mut *words);
     Went {
         answer: answer::DONE,
@@ -177,8 +190,8 @@ pub fn meets_own(words: &mut [u64; HEAD], met: bool, cause: Cause, exact: bool) 
     answer::DONE
 }
 
-// std (RA, index), with the value of RA
-pub fn std(
+// A store of the marked bytes of a value.
+pub fn store(
     gpr: &mut [u64; GPRS],
     cr: &mut [u8; CR_FIELDS],
     kgpr: &[u64; GPRS],
@@ -187,18 +200,19 @@ pub fn std(
     ix: &mut [u32; PLACES],
     vl: &mut [u64; VALUES],
     mem: &mut [u64],
-    value: u64,
     index: u32,
+    marks: u8,
+    value: u64,
 ) -> Went
     requires { ⌜ head-of (now words) .count ≤ most-places ⌝ }
     requires { ⌜ line index < lines ⌝ }
     requires { ⌜ index < length (now mem) ⌝ }
-    ensures { λ r. ⌜ record { answer = r .answer; thread = standing (now (gpr .exit)) (now (cr .exit)) (now (kgpr .entry)) (now (kcr .entry)) (now (words .exit)) (now (ix .exit)) (now (vl .exit)); touch = r .touch; memory = now (mem .exit) } ≡ landed (std (head-of (now (words .entry)) .control .msr .state) (standing (now (gpr .entry)) (now (cr .entry)) (now (kgpr .entry)) (now (kcr .entry)) (now (words .entry)) (now (ix .entry)) (now (vl .entry))) value index) (held (head-of (now (words .entry))) (now (ix .entry)) (now (vl .entry))) (now (mem .entry)) ⌝ }
+    ensures { λ r. ⌜ record { answer = r .answer; thread = standing (now (gpr .exit)) (now (cr .exit)) (now (kgpr .entry)) (now (kcr .entry)) (now (words .exit)) (now (ix .exit)) (now (vl .exit)); touch = r .touch; memory = now (mem .exit) } ≡ landed (store (head-of (now (words .entry)) .control .msr .state) (standing (now (gpr .entry)) (now (cr .entry)) (now (kgpr .entry)) (now (kcr .entry)) (now (words .entry)) (now (ix .entry)) (now (vl .entry))) index marks value) (held (head-of (now (words .entry))) (now (ix .entry)) (now (vl .entry))) (now (mem .entry)) ⌝ }
 {
     let s = rows::state_at(words[3]);
     match s {
         State::N => {
-            mem[index as usize] = value;
+            rows_hold::put(&mut *mem, index as usize, marks, value);
             place::passes(&mut *words);
             Went {
                 answer: answer::DONE,
@@ -213,11 +227,12 @@ pub fn std(
             &mut *words,
             &mut *ix,
             &mut *vl,
-            value,
             index,
+            marks,
+            value,
         ),
         State::S => {
-            mem[index as usize] = value;
+            rows_hold::put(&mut *mem, index as usize, marks, value);
             let met = touches(&*words, index as usize / LINE);
             Went {
                 answer: meets_own(&mut *words, met, Cause::OwnStore, true),

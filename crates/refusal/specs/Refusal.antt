@@ -10,7 +10,7 @@ use Rattle.thread.specs.declared.State.the-variants.{N, T, S}
 use Rattle.thread.specs.declared.Control.{Control}
 use Rattle.event.specs.Event.{tend-kind, treclaim-kind, trechkpt-kind, mtspr-kind, host-kind, kind, operands-right, tm-instruction, privileged}
 use Rattle.event.specs.declared.Event.{Event}
-use Rattle.event.specs.declared.Event.the-variants.{Tbegin, Tend, Tabort, Tabortwc, Tabortdc, Tsr, Tcheck, Treclaim, Trechkpt, Mtspr, Mfspr, Ld, Std, Addi, Disallowed, Interrupt, Host, Rfid, Mtmsrd, Tlbie}
+use Rattle.event.specs.declared.Event.the-variants.{Tbegin, Tend, Tabort, Tabortwc, Tabortdc, Tsr, Tcheck, Treclaim, Trechkpt, Mtspr, Mfspr, Ld, Std, Addi, Disallowed, Interrupt, Host, Rfid, Mtmsrd, Lbz, Lhz, Lwz, Stb, Sth, Stw, Tlbie}
 use Rattle.machine.specs.Machine.{thread}
 use Rattle.machine.specs.Valid.{machine-number, first-of}
 use Rattle.machine.specs.declared.Machine.{Machine}
@@ -59,6 +59,12 @@ turned-down k Interrupt = false
 turned-down k (Host pr tm) = false
 turned-down k Rfid = is-bad (turned (k .msr) (by-srr1 (k .saved .srr1)))
 turned-down k (Mtmsrd t s tm pr) = is-bad (turned (k .msr) (asked t s tm pr))
+turned-down k (Lbz rt a) = false
+turned-down k (Lhz rt a) = false
+turned-down k (Lwz rt a) = false
+turned-down k (Stb ra a) = false
+turned-down k (Sth ra a) = false
+turned-down k (Stw ra a) = false
 turned-down k (Tlbie p) = false
 
 -- the tests on the event's own thread: 5, 11, 12, 13

@@ -127,6 +127,12 @@ fn turned_down(k: Control, e: Event) -> bool
         Event::Host { pr: _, tm: _ } => false,
         Event::Rfid => turns::is_bad(m, turns::by_srr1(saved.srr1)),
         Event::Mtmsrd { t, s, tm, pr } => turns::is_bad(m, Asked { t, s, tm, pr }),
+        Event::Lbz { rt: _, address: _ } => false,
+        Event::Lhz { rt: _, address: _ } => false,
+        Event::Lwz { rt: _, address: _ } => false,
+        Event::Stb { ra: _, address: _ } => false,
+        Event::Sth { ra: _, address: _ } => false,
+        Event::Stw { ra: _, address: _ } => false,
         Event::Tlbie { page: _ } => false,
     }
 }

@@ -55,7 +55,7 @@ returns c =
     let s = e .before .before .before in
     let p = sym (e .before .crowded .ensures (s .args .ix .now) (s .args .vl .now)) ∙ e .if1 .taken in
     λ mem.
-    c .overflowed .ensures (s .args .ix .now) (s .args .vl .now) mem (thread s .transaction) ∙ sym (ap (left s mem) (logs-crowded (thread s) (s .args .value) (s .args .index) p))
+    c .overflowed .ensures (s .args .ix .now) (s .args .vl .now) mem (thread s .transaction) ∙ sym (ap (left s mem) (logs-crowded (thread s) (s .args .index) (s .args .marks) (s .args .value) p))
 
 element-copy-out-count : tie.Need-element-copy-out-count
 element-copy-out-count c = search needs
@@ -80,7 +80,7 @@ returns-2 c =
     let s = n .before .before .before in
     λ mem.
     c .overflowed2 .ensures (s .args .ix .now) (s .args .vl .now) mem (thread s .transaction)
-    ∙ sym (ap (left s mem) (logs-is (thread s) (s .args .value) (s .args .index) false true (uncrowded n) (ap (full (thread s .transaction)) (sym (found l)) ∙ roomy f true (e .if2 .taken))))
+    ∙ sym (ap (left s mem) (logs-is (thread s) (s .args .index) (s .args .marks) (s .args .value) false true (uncrowded n) (ap (full (thread s .transaction)) (sym (found l)) ∙ roomy f true (e .if2 .taken))))
 
 logged-requires : tie.Need-logged-requires
 logged-requires c κs =
@@ -107,8 +107,8 @@ returns-3 c =
     λ mem.
     ap (λ (d : Did). left s mem (stores d (a .index) Unwritten))
     ((λ j. did answer.done (thread-with (c .passes .ensures j) (a .gpr .now) (a .cr .now) (a .kgpr .now) (a .kcr .now) (g .logged .last .1 .0) (g .logged .last .1 .1 .0)))
-    ∙ ap passes (g .logged .ensures (a .gpr .now) (a .cr .now) (a .kgpr .now) (a .kcr .now) ∙ ap (λ (x : Found). with-transaction t (store-at (t .transaction) x (a .index) (a .value))) (found l)))
-    ∙ sym (ap (left s mem) (logs-is t (a .value) (a .index) false false (uncrowded n) (ap (full (t .transaction)) (sym (found l)) ∙ roomy f false (e .if2 .left))))
+    ∙ ap passes (g .logged .ensures (a .gpr .now) (a .cr .now) (a .kgpr .now) (a .kcr .now) ∙ ap (λ (x : Found). with-transaction t (store-at (t .transaction) x (a .index) (a .marks) (a .value))) (found l)))
+    ∙ sym (ap (left s mem) (logs-is t (a .index) (a .marks) (a .value) false false (uncrowded n) (ap (full (t .transaction)) (sym (found l)) ∙ roomy f false (e .if2 .left))))
 
 pub logs-spec : {M : Type 1} → statement M
 logs-spec =

@@ -1,9 +1,11 @@
 -- `power_access::takes` meets its contract.
 use Rattle.base.specs.Answers as answer
+use Rattle.doubleword.specs.Doubleword.{part}
 use Rattle.power_common.specs.Common.{did}
 use Rattle.rows.specs.Rows.{head-of, thread-with}
 use borrow.Author.Needs.{needs}
 use lib.ListN.{set}
+use mathlib.Core.Path.{ap, _∙_}
 use Rattle.power_access.proofs.takes.Statement.{statement}
 use Rattle.power_access.proofs.takes.Tie as tie
 
@@ -14,7 +16,10 @@ load-requires : tie.Need-load-requires
 unfolding head-of
 load-requires c κs =
     let s = c .before .before in
-    (s .pre .0, s .pre .1 .1)
+    (s .pre .0, s .pre .1 .1 .0)
+
+part-requires : tie.Need-part-requires
+part-requires c κs = search needs
 
 mul-gpr : tie.Need-mul-gpr
 mul-gpr c = search needs
@@ -28,9 +33,11 @@ passes-requires c κs = search needs
 returns : tie.Need-returns
 unfolding head-of
 returns c =
-    let l = c .before .before in
+    let p = c .before .before in
+    let l = p .before in
     let a = l .before .before .before .args in
-    λ cr kgpr kcr j. did answer.done (thread-with (c .passes .ensures j) (set (a .gpr .now) (a .rt) (l .load .ensures j)) cr kgpr kcr (a .ix .now) (a .vl .now))
+    let v = p .part .ensures ∙ ap (part (a .low) (a .width)) (l .load .ensures) in
+    λ cr kgpr kcr j. did answer.done (thread-with (c .passes .ensures j) (set (a .gpr .now) (a .rt) (v j)) cr kgpr kcr (a .ix .now) (a .vl .now))
 
 pub takes-spec : {M : Type 1} → statement M
 takes-spec =
@@ -38,6 +45,7 @@ takes-spec =
     (tie.spec
     element-copy-out-count
     load-requires
+    part-requires
     mul-gpr
     element-write-gpr
     passes-requires

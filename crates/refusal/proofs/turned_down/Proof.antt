@@ -73,6 +73,24 @@ is-bad-requires-2 c κs = search needs
 enum-told-19 : tie.Need-enum-told-19
 enum-told-19 c = search needs
 
+enum-told-20 : tie.Need-enum-told-20
+enum-told-20 c = search needs
+
+enum-told-21 : tie.Need-enum-told-21
+enum-told-21 c = search needs
+
+enum-told-22 : tie.Need-enum-told-22
+enum-told-22 c = search needs
+
+enum-told-23 : tie.Need-enum-told-23
+enum-told-23 c = search needs
+
+enum-told-24 : tie.Need-enum-told-24
+enum-told-24 c = search needs
+
+enum-told-25 : tie.Need-enum-told-25
+enum-told-25 c = search needs
+
 returns : tie.Need-returns
 unfolding turned-down
 returns c = simp (c .enum-told .given .1)
@@ -153,6 +171,30 @@ returns-20 : tie.Need-returns-20
 unfolding turned-down
 returns-20 c = simp (c .enum-told19 .given .1)
 
+returns-21 : tie.Need-returns-21
+unfolding turned-down
+returns-21 c = simp (c .enum-told20 .given .1)
+
+returns-22 : tie.Need-returns-22
+unfolding turned-down
+returns-22 c = simp (c .enum-told21 .given .1)
+
+returns-23 : tie.Need-returns-23
+unfolding turned-down
+returns-23 c = simp (c .enum-told22 .given .1)
+
+returns-24 : tie.Need-returns-24
+unfolding turned-down
+returns-24 c = simp (c .enum-told23 .given .1)
+
+returns-25 : tie.Need-returns-25
+unfolding turned-down
+returns-25 c = simp (c .enum-told24 .given .1)
+
+returns-26 : tie.Need-returns-26
+unfolding turned-down
+returns-26 c = simp (c .enum-told25 .given .1)
+
 pub turned-down-spec : {M : Type 1} → statement M
 turned-down-spec =
     tie.close
@@ -180,6 +222,12 @@ turned-down-spec =
     enum-known-e
     is-bad-requires-2
     enum-told-19
+    enum-told-20
+    enum-told-21
+    enum-told-22
+    enum-told-23
+    enum-told-24
+    enum-told-25
     returns
     returns-2
     returns-3
@@ -199,4 +247,10 @@ turned-down-spec =
     returns-17
     returns-18
     returns-19
-    returns-20)
+    returns-20
+    returns-21
+    returns-22
+    returns-23
+    returns-24
+    returns-25
+    returns-26)

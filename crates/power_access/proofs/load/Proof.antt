@@ -1,6 +1,6 @@
--- `power_access::ld` meets its contract.
-use Rattle.power_access.proofs.Laws.{ld-apart, ld-joins}
-use Rattle.power_access.specs.Access.{takes, joins, loads, ld}
+-- `power_access::load` meets its contract.
+use Rattle.power_access.proofs.Laws.{load-apart, load-joins}
+use Rattle.power_access.specs.Access.{takes, joins, loads, load}
 use Rattle.power_common.specs.Common.{quiet, fails}
 use Rattle.power_common.specs.declared.Did.{Did}
 use Rattle.rows.specs.Landed.{Landed, landed}
@@ -14,8 +14,8 @@ use borrow.Author.Needs.{needs}
 use mathlib.Core.Bool.{Bool, true, false, cond}
 use mathlib.Core.Path.{_≡_, sym, ap, _∙_}
 use native.Mathlib.Omega.{arith}
-use Rattle.power_access.proofs.ld.Statement.{statement}
-use Rattle.power_access.proofs.ld.Tie as tie
+use Rattle.power_access.proofs.load.Statement.{statement}
+use Rattle.power_access.proofs.load.Tie as tie
 
 -- the thread at the start
 abbrev thread : (c : tie.Start) → Thread
@@ -27,15 +27,15 @@ left c f = landed f (held (head-of (c .args .words .now)) (c .args .ix .now) (c 
 
 -- a load that joins the read set, by whether there is room for the line
 joined : (c : tie.After-crowded) (b : Bool) → c .crowded .result ≡ b → let s = c .before .before .before .before .before .before in
-    ld (head-of (s .args .words .now) .control .msr .state) (thread s) (s .args .rt) (s .args .index) (s .args .mem .now)
-    ≡ cond b (quiet (fails (thread s) Footprint)) (loads (takes (joins (thread s) (s .args .index)) (s .args .rt) (s .args .index) (s .args .mem .now)) (s .args .index))
+    load (head-of (s .args .words .now) .control .msr .state) (thread s) (s .args .rt) (s .args .index) (s .args .low) (s .args .width) (s .args .mem .now)
+    ≡ cond b (quiet (fails (thread s) Footprint)) (loads (takes (joins (thread s) (s .args .index)) (s .args .rt) (s .args .index) (s .args .low) (s .args .width) (s .args .mem .now)) (s .args .index))
 joined c b p =
     let j = c .before .before in
     let s = j .before .before .before .before in
     let a = s .args in
     let t = thread s in
-    ld-joins t (a .rt) (a .index) (a .mem .now) (head-of (a .words .now) .control .msr .state) (sym (j .before .joining .ensures) ∙ j .if1 .taken)
-    ∙ ap (λ (x : Bool). cond x (quiet (fails t Footprint)) (loads (takes (joins t (a .index)) (a .rt) (a .index) (a .mem .now)) (a .index))) (sym (c .crowded .ensures (a .ix .now) (a .vl .now)) ∙ p)
+    load-joins t (a .rt) (a .index) (a .low) (a .width) (a .mem .now) (head-of (a .words .now) .control .msr .state) (sym (j .before .joining .ensures) ∙ j .if1 .taken)
+    ∙ ap (λ (x : Bool). cond x (quiet (fails t Footprint)) (loads (takes (joins t (a .index)) (a .rt) (a .index) (a .low) (a .width) (a .mem .now)) (a .index))) (sym (c .crowded .ensures (a .ix .now) (a .vl .now)) ∙ p)
 
 joining-requires : tie.Need-joining-requires
 joining-requires c κs = search needs
@@ -71,7 +71,7 @@ returns-2 c =
     let s = e .before .before .before .before .before .before .before in
     let a = s .args in
     ap (λ (d : Did). left s (loads d (a .index))) (c .takes .ensures (a .cr .now) (a .kgpr .now) (a .kcr .now))
-    ∙ (λ j. left s (loads (takes (thread-with (w .join-reads .ensures j) (a .gpr .now) (a .cr .now) (a .kgpr .now) (a .kcr .now) (a .ix .now) (a .vl .now)) (a .rt) (a .index) (a .mem .now)) (a .index)))
+    ∙ (λ j. left s (loads (takes (thread-with (w .join-reads .ensures j) (a .gpr .now) (a .cr .now) (a .kgpr .now) (a .kcr .now) (a .ix .now) (a .vl .now)) (a .rt) (a .index) (a .low) (a .width) (a .mem .now)) (a .index)))
     ∙ sym (ap (left s) (joined (e .before) false (e .if2 .left)))
 
 takes-requires-2 : tie.Need-takes-requires-2
@@ -84,10 +84,10 @@ returns-3 c =
     let s = e .before .before .before .before in
     let a = s .args in
     ap (λ (d : Did). left s (loads d (a .index))) (c .takes2 .ensures (a .cr .now) (a .kgpr .now) (a .kcr .now))
-    ∙ sym (ap (left s) (ld-apart (thread s) (a .rt) (a .index) (a .mem .now) (head-of (a .words .now) .control .msr .state) (sym (e .before .joining .ensures) ∙ e .if1 .left)))
+    ∙ sym (ap (left s) (load-apart (thread s) (a .rt) (a .index) (a .low) (a .width) (a .mem .now) (head-of (a .words .now) .control .msr .state) (sym (e .before .joining .ensures) ∙ e .if1 .left)))
 
-pub ld-spec : {M : Type 1} → statement M
-ld-spec =
+pub load-spec : {M : Type 1} → statement M
+load-spec =
     tie.close
     (tie.spec
     joining-requires

@@ -1,6 +1,6 @@
--- `power_access::std` meets its contract.
+-- `power_access::store` meets its contract.
 use Rattle.base.specs.Answers as answer
-use Rattle.power_access.specs.Access.{stores, meets-own, std}
+use Rattle.power_access.specs.Access.{stores, meets-own, store}
 use Rattle.power_common.specs.Common.{did}
 use Rattle.power_common.specs.declared.Did.{Did}
 use Rattle.rows.specs.Landed.{Landed, landed}
@@ -8,14 +8,15 @@ use Rattle.rows.specs.Rows.{head-of, thread-with, standing, held}
 use Rattle.thread.specs.declared.Effect.{Effect}
 use Rattle.thread.specs.declared.State.{State}
 use Rattle.thread.specs.declared.Thread.{Thread}
-use Rattle.transaction.specs.Transaction.{written}
+use Rattle.transaction.specs.Transaction.{line, written}
 use Rattle.transaction.specs.declared.Cause.the-variants.{OwnStore}
-use Rattle.transaction.specs.declared.Write.the-variants.{Doubleword}
+use Rattle.transaction.specs.declared.Touch.the-variants.{Store}
+use Rattle.transaction.specs.declared.Write.the-variants.{Bytes}
 use borrow.Author.Needs.{needs}
 use mathlib.Core.Bool.{Bool, true}
 use mathlib.Core.Path.{_≡_, sym, ap, _∙_}
-use Rattle.power_access.proofs.std.Statement.{statement}
-use Rattle.power_access.proofs.std.Tie as tie
+use Rattle.power_access.proofs.store.Statement.{statement}
+use Rattle.power_access.proofs.store.Tie as tie
 
 -- the thread at the start
 abbrev thread : (c : tie.Start) → Thread
@@ -27,9 +28,9 @@ left c f = landed f (held (head-of (c .args .words .now)) (c .args .ix .now) (c 
 
 -- by the state that the row names
 by-state : (c : tie.After-state-at) (s : State) → c .state-at .result ≡ s → let o = c .before .before .before in
-    left o (std (head-of (o .args .words .now) .control .msr .state) (thread o) (o .args .value) (o .args .index)) ≡ left o (std s (thread o) (o .args .value) (o .args .index))
+    left o (store (head-of (o .args .words .now) .control .msr .state) (thread o) (o .args .index) (o .args .marks) (o .args .value)) ≡ left o (store s (thread o) (o .args .index) (o .args .marks) (o .args .value))
 unfolding head-of
-by-state c s p = let o = c .before .before .before in λ j. left o (std ((sym (c .state-at .ensures) ∙ p) j) (thread o) (o .args .value) (o .args .index))
+by-state c s p = let o = c .before .before .before in λ j. left o (store ((sym (c .state-at .ensures) ∙ p) j) (thread o) (o .args .index) (o .args .marks) (o .args .value))
 
 element-copy-out-state-at : tie.Need-element-copy-out-state-at
 element-copy-out-state-at c = search needs
@@ -40,11 +41,8 @@ state-at-requires c κs = search needs
 enum-told : tie.Need-enum-told
 enum-told c = search needs
 
-mul-mem : tie.Need-mul-mem
-mul-mem c = search needs
-
-slice-write-mem : tie.Need-slice-write-mem
-slice-write-mem c = search needs
+put-requires : tie.Need-put-requires
+put-requires c κs = search needs
 
 passes-requires : tie.Need-passes-requires
 passes-requires c κs = search needs
@@ -58,11 +56,8 @@ logs-requires c κs = search needs
 enum-told-3 : tie.Need-enum-told-3
 enum-told-3 c = search needs
 
-mul-mem-2 : tie.Need-mul-mem-2
-mul-mem-2 c = search needs
-
-slice-write-mem-2 : tie.Need-slice-write-mem-2
-slice-write-mem-2 c = search needs
+put-requires-2 : tie.Need-put-requires-2
+put-requires-2 c κs = search needs
 
 touches-requires : tie.Need-touches-requires
 touches-requires c κs = search needs
@@ -74,16 +69,17 @@ same-length : tie.Need-same-length
 same-length c = search needs
 
 returns : tie.Need-returns
-unfolding std written
+unfolding store written
 returns c =
-    let e = c .before .before in
+    let p = c .before .before .before .before in
+    let e = p .before .before in
     let r = e .before .before in
     let s = r .before .before .before in
-    (λ j. left s (stores (did answer.done (thread-with (c .passes .ensures j) (s .args .gpr .now) (s .args .cr .now) (s .args .kgpr .now) (s .args .kcr .now) (s .args .ix .now) (s .args .vl .now))) (s .args .index) (Doubleword (s .args .index) (s .args .value))))
+    (λ j. record { answer = answer.done; thread = thread-with (c .passes .ensures j) (s .args .gpr .now) (s .args .cr .now) (s .args .kgpr .now) (s .args .kcr .now) (s .args .ix .now) (s .args .vl .now); touch = Store (line (s .args .index)); memory = p .put .ensures j })
     ∙ sym (by-state r State.N (e .enum-told .given .1))
 
 returns-2 : tie.Need-returns-2
-unfolding std written
+unfolding store written
 returns-2 c =
     let e = c .before .before .before .before .before .before in
     let r = e .before .before in
@@ -94,32 +90,32 @@ same-length-2 : tie.Need-same-length-2
 same-length-2 c = search needs
 
 returns-3 : tie.Need-returns-3
-unfolding std written
+unfolding store written
 returns-3 c =
     let t = c .before .before in
-    let e = t .before .before in
+    let p = t .before .before .before .before in
+    let e = p .before .before in
     let r = e .before .before in
     let s = r .before .before .before in
-    ap (λ (d : Did). left s (stores d (s .args .index) (Doubleword (s .args .index) (s .args .value))))
+    (λ j. record { answer = c .meets-own .result; thread = standing (s .args .gpr .now) (s .args .cr .now) (s .args .kgpr .now) (s .args .kcr .now) (c .meets-own .last .0) (s .args .ix .now) (s .args .vl .now); touch = Store (line (s .args .index)); memory = p .put2 .ensures j })
+    ∙ ap (λ (d : Did). left s (stores d (s .args .index) (Bytes (s .args .index) (s .args .marks) (s .args .value))))
     (c .meets-own .ensures (s .args .gpr .now) (s .args .cr .now) (s .args .kgpr .now) (s .args .kcr .now) (s .args .ix .now) (s .args .vl .now)
     ∙ ap (λ (b : Bool). meets-own b (thread s) OwnStore true) (t .touches .ensures (s .args .ix .now) (s .args .vl .now)))
     ∙ sym (by-state r State.S (e .enum-told3 .given .1))
 
-pub std-spec : {M : Type 1} → statement M
-std-spec =
+pub store-spec : {M : Type 1} → statement M
+store-spec =
     tie.close
     (tie.spec
     element-copy-out-state-at
     state-at-requires
     enum-told
-    mul-mem
-    slice-write-mem
+    put-requires
     passes-requires
     enum-told-2
     logs-requires
     enum-told-3
-    mul-mem-2
-    slice-write-mem-2
+    put-requires-2
     touches-requires
     meets-own-requires
     same-length
