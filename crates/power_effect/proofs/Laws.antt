@@ -22,7 +22,7 @@ use Rattle.thread.specs.declared.Thread.{Thread}
 use Rattle.thread.specs.declared.Effect.{Effect}
 use Rattle.event.specs.Event.{operands-right}
 use Rattle.event.specs.declared.Event.{Event}
-use Rattle.event.proofs.Laws.{ld-in, std-in, tlbie-in}
+use Rattle.event.proofs.Laws.{tlbie-in}
 use Rattle.machine.specs.Valid.{place-right, unused-zero}
 use Rattle.rows.specs.Rows.{log-of, held}
 use Rattle.rows.specs.Landed.{Landed, landed}
@@ -34,7 +34,7 @@ use Rattle.power_common.specs.declared.Did.{Did}
 use Rattle.power_special.specs.Special.{mtspr}
 use Rattle.power_reclaims.specs.Reclaims.{treclaim, trechkpt}
 use Rattle.power_begins.specs.Begins.{commits, tend}
-use Rattle.power_access.specs.Access.{ld-overflows, std-overflows, ld, logs, std, tlbie}
+use Rattle.power_access.specs.Access.{ld-overflows, std-overflows, load, logs, store, tlbie}
 use Rattle.power_effect.specs.declared.Rare.{Rare}
 use Rattle.power_effect.specs.Effects.{effect}
 use Rattle.power_effect.proofs.Cases.{effect-by}
@@ -50,17 +50,17 @@ tend-lined T t a = fork Touches (commits t a) (λ p. tt) (λ p. tt)
 tend-lined S t a = tt
 
 module _ (t : Thread) (i : ℕ) (below : line i < lines) where
-  ld-lined : (s : State) (rt : ℕ) (mem : List ℕ) → Touches (ld s t rt i mem)
-  unfolding ld
-  ld-lined N rt mem = below
-  ld-lined T rt mem = fork Touches (ld-overflows t i) (λ p. tt) (λ p. below)
-  ld-lined S rt mem = below
+  load-lined : (s : State) (rt j w : ℕ) (mem : List ℕ) → Touches (load s t rt i j w mem)
+  unfolding load
+  load-lined N rt j w mem = below
+  load-lined T rt j w mem = fork Touches (ld-overflows t i) (λ p. tt) (λ p. below)
+  load-lined S rt j w mem = below
 
-  std-lined : (s : State) (v : ℕ) → Touches (std s t v i)
-  unfolding std logs
-  std-lined N v = below
-  std-lined T v = fork Touches (std-overflows t i) (λ p. tt) (λ p. below)
-  std-lined S v = below
+  store-lined : (s : State) (m v : ℕ) → Touches (store s t i m v)
+  unfolding store logs
+  store-lined N m v = below
+  store-lined T m v = fork Touches (std-overflows t i) (λ p. tt) (λ p. below)
+  store-lined S m v = below
 
 tlbie-lined : (s : State) (t : Thread) (p : ℕ) → p < pages → Touches (tlbie s t p)
 unfolding tlbie
@@ -87,8 +87,8 @@ effect-lined e t mem o h =
       treclaim = λ ra o. tt;
       trechkpt = λ o. tt;
       mtspr = λ spr ra o. tt;
-      ld = λ rt i o. let l = ld-in rt i _ o .1 in ld-lined t i (omega arith) (t .control .msr .state) rt mem;
-      std = λ ra i o. let l = std-in ra i _ o .1 in std-lined t i (omega arith) (t .control .msr .state) _;
+      load = λ e rt i j w a o. let l = a _ o .1 in load-lined t i (omega arith) (t .control .msr .state) rt j w mem;
+      store = λ e ra i m v a z o. let l = a _ o .1 in store-lined t i (omega arith) (t .control .msr .state) m _;
       disallowed = λ o. tt;
       interrupt = λ o. tt;
       host = λ pr tm o. tt;
@@ -117,7 +117,7 @@ held-clean h ix vl c = and-intro _ _ (le-leb _ _ c) (all-from _ most-places (λ 
   where
     go : (n : ℕ) → n < most-places → (b : Bool) → leb (h .count) n ≡ b → place-right (transaction.entry (log-of ix vl (h .count)) n) n (h .count) ≡ true
     go n l true p = ap (λ (x : Entry). place-right x n (h .count)) (log-unused ix vl (h .count) n (leb-true _ _ p) l) ∙ or-true (ltb n (h .count))
-    go n l false p = ap (λ (b : Bool). b || eqb (transaction.entry (log-of ix vl (h .count)) n .index) 0 && eqb (transaction.entry (log-of ix vl (h .count)) n .value) 0) (lt-ltb n (h .count) (leb-false _ _ p))
+    go n l false p = ap (λ (b : Bool). b || eqb (transaction.entry (log-of ix vl (h .count)) n .index) 0 && eqb (transaction.entry (log-of ix vl (h .count)) n .marks) 0 && eqb (transaction.entry (log-of ix vl (h .count)) n .value) 0) (lt-ltb n (h .count) (leb-false _ _ p))
 
 empty-clean : unused-zero transaction.empty ≡ true
 unfolding unused-zero place-right transaction.empty all-below

@@ -1,16 +1,16 @@
--- What each event that is not refused does: its answer and thread, what it touches and what it writes (rules E1 to E19, E26). The meanings are in the crates power_*.
+-- What each event that is not refused does: its answer and thread, what it touches and what it writes (rules E1 to E26). The meanings are in the crates power_*.
 use Prim.Native.Nat.{ℕ}
 use mathlib.Core.List.{List}
 use Rattle.thread.specs.declared.Thread.{Thread}
 use Rattle.thread.specs.declared.Effect.{Effect}
 use Rattle.event.specs.declared.Event.{Event}
-use Rattle.event.specs.declared.Event.the-variants.{Tbegin, Tend, Tabort, Tabortwc, Tabortdc, Tsr, Tcheck, Treclaim, Trechkpt, Mtspr, Mfspr, Ld, Std, Addi, Disallowed, Interrupt, Host, Rfid, Mtmsrd, Tlbie}
+use Rattle.event.specs.declared.Event.the-variants.{Tbegin, Tend, Tabort, Tabortwc, Tabortdc, Tsr, Tcheck, Treclaim, Trechkpt, Mtspr, Mfspr, Ld, Std, Addi, Disallowed, Interrupt, Host, Rfid, Mtmsrd, Lbz, Lhz, Lwz, Stb, Sth, Stw, Tlbie}
 use Rattle.power_common.specs.Common.{quiet, gpr, abort-cause}
 use Rattle.power_begins.specs.Begins.{tbegin, tend, tsr}
 use Rattle.power_aborts.specs.Aborts.{tabort, tabortwc, tabortdc}
 use Rattle.power_reclaims.specs.Reclaims.{tcheck, treclaim, trechkpt}
 use Rattle.power_special.specs.Special.{mtspr, mfspr}
-use Rattle.power_access.specs.Access.{ld, std, tlbie}
+use Rattle.power_access.specs.Access.{ld, narrow-load, std, narrow-store, tlbie}
 use Rattle.power_plain.specs.Plain.{addi, disallowed, interrupt, host}
 use Rattle.power_returns.specs.Returns.{rfid, mtmsrd}
 
@@ -34,4 +34,10 @@ effect Interrupt t mem = quiet (interrupt t)
 effect (Host pr tm) t mem = quiet (host t pr tm)
 effect Rfid t mem = quiet (rfid t)
 effect (Mtmsrd b29 b30 tm pr) t mem = quiet (mtmsrd t b29 b30 tm pr)
+effect (Lbz rt a) t mem = narrow-load 1 (t .control .msr .state) t rt a mem
+effect (Lhz rt a) t mem = narrow-load 2 (t .control .msr .state) t rt a mem
+effect (Lwz rt a) t mem = narrow-load 4 (t .control .msr .state) t rt a mem
+effect (Stb ra a) t mem = narrow-store 1 (t .control .msr .state) t (gpr t ra) a
+effect (Sth ra a) t mem = narrow-store 2 (t .control .msr .state) t (gpr t ra) a
+effect (Stw ra a) t mem = narrow-store 4 (t .control .msr .state) t (gpr t ra) a
 effect (Tlbie p) t mem = tlbie (t .control .msr .state) t p

@@ -1,4 +1,4 @@
-// An event done on its own thread's rows and on memory (rules E1 to E19, E26): it goes to the crate of its group. Rare ones are done on the thread by value.
+// An event done on its own thread's rows and on memory (rules E1 to E26): it goes to the crate of its group. Rare ones are done on the thread by value.
 ghost use mathlib.Core.Path.{_≡_};
 ghost use Prim.Native.Nat.{_≤_};
 ghost use lib.ListN.{length};
@@ -12,10 +12,14 @@ ghost use Rattle.power_effect.specs.Inner.{Ready, Registered, rare};
 use base::CR_FIELDS;
 use base::GPRS;
 use base::PLACES;
+use doubleword::ALL;
 use event::Event;
 use power_aborts::tabort;
 use power_aborts::tabortdc;
 use power_aborts::tabortwc;
+use power_access::load;
+use power_access::narrow;
+use power_access::store;
 use power_common::Did;
 use rows::HEAD;
 use rows::VALUES;
@@ -114,11 +118,11 @@ pub fn effect(
         }
         Event::Mfspr { rt, spr } => quiet(power_special::mfspr(gpr, words, rt, spr)),
         Event::Ld { rt, index } => {
-            power_access::ld(gpr, cr, &*kgpr, &*kcr, words, &*ix, &*vl, &*mem, rt, index)
+            load(gpr, cr, &*kgpr, &*kcr, words, &*ix, &*vl, &*mem, rt, index, 0, 8)
         }
         Event::Std { ra, index } => {
             let v = gpr[ra as usize];
-            power_access::std(gpr, cr, &*kgpr, &*kcr, words, ix, vl, mem, v, index)
+            store(gpr, cr, &*kgpr, &*kcr, words, ix, vl, mem, index, ALL, v)
         }
         Event::Addi { rt, ra, si } => quiet(power_plain::addi(gpr, words, rt, ra, si)),
         Event::Disallowed => quiet(power_plain::disallowed(gpr, cr, &*kgpr, &*kcr, words)),
@@ -128,6 +132,27 @@ pub fn effect(
         Event::Mtmsrd { t, s, tm, pr } => {
             let asked = Asked { t, s, tm, pr };
             quiet(power_returns::mtmsrd(gpr, cr, &*kgpr, &*kcr, words, asked))
+        }
+        Event::Lbz { rt, address } => {
+            narrow::load(gpr, cr, &*kgpr, &*kcr, words, &*ix, &*vl, &*mem, 1, rt, address)
+        }
+        Event::Lhz { rt, address } => {
+            narrow::load(gpr, cr, &*kgpr, &*kcr, words, &*ix, &*vl, &*mem, 2, rt, address)
+        }
+        Event::Lwz { rt, address } => {
+            narrow::load(gpr, cr, &*kgpr, &*kcr, words, &*ix, &*vl, &*mem, 4, rt, address)
+        }
+        Event::Stb { ra, address } => {
+            let v = gpr[ra as usize];
+            narrow::store(gpr, cr, &*kgpr, &*kcr, words, ix, vl, mem, 1, v, address)
+        }
+        Event::Sth { ra, address } => {
+            let v = gpr[ra as usize];
+            narrow::store(gpr, cr, &*kgpr, &*kcr, words, ix, vl, mem, 2, v, address)
+        }
+        Event::Stw { ra, address } => {
+            let v = gpr[ra as usize];
+            narrow::store(gpr, cr, &*kgpr, &*kcr, words, ix, vl, mem, 4, v, address)
         }
         Event::Tlbie { page } => power_access::page::tlbie(gpr, cr, &*kgpr, &*kcr, words, page),
     }
