@@ -33,7 +33,7 @@ use crate::Answer;
 /// assert_eq!(ended.bad_record(), Some((2, Answer::NoKind)));
 /// assert_eq!(
 ///     ended.to_string(),
-///     "record 2: 8, the kind is not 1 to 19 or 26, or above 17 in edition two"
+///     "record 2: 8, the kind is not 1 to 26, or above 17 in edition two"
 /// );
 /// ```
 #[derive(Clone, Copy, Debug, PartialEq, Eq, Hash)]
