@@ -868,7 +868,7 @@ static void a_log_full_of_bytes(void) {
   stores(NASZEPTAN_STB, 0x55, 505);
   CHECK(logged(64, 63, 63, 0xC0, UINT64_C(0x3F55000000000000)));
   fails(narrow(NASZEPTAN_STB, 0, 3, 512), NASZEPTAN_HANDLED, 1);
-  CHECK(desk.threads[0].control.texasr == UINT64_C(0x0020000018000001));
+  CHECK(desk.threads[0].control.texasr == UINT64_C(0x002000001C000001));
 }
 
 /* docs/RULES.md, V2 and V15: a used place has some mark, bytes without one are

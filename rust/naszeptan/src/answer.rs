@@ -32,7 +32,8 @@ pub enum Answer {
     /// 3: the event's thread is not below the count; from the writer of
     /// edition two, it is above 3.
     NoThread = 3,
-    /// 4: a used register, BF, TO, SPR or index out of range.
+    /// 4: a used register, BF, TO, SPR, index, address or page out of range, or
+    /// an address that is no multiple of the access's width.
     Operand = 4,
     /// 5: the host event on a Transactional thread.
     HostInT = 5,

@@ -28,7 +28,7 @@ use crate::Answer;
 /// // A record that is none keeps the whole tape from being run.
 /// tape.push(0, Event::Disallowed);
 /// let mut bytes = tape.into_bytes();
-/// bytes[33] = 20;
+/// bytes[33] = 27;
 /// let ended = machine.run(&mut memory, &bytes);
 /// assert_eq!(ended.bad_record(), Some((2, Answer::NoKind)));
 /// assert_eq!(

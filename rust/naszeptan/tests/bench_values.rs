@@ -509,7 +509,7 @@ fn k35_a_log_full_of_bytes() {
         (64, 63, 0xC0, 0x0102_0000_0000_0000)
     );
     desk.step(0, stb(3, 512), Answer::Handled);
-    assert_eq!(desk.texasr(), 0x0020_0000_1800_0001);
+    assert_eq!(desk.texasr(), 0x0020_0000_1C00_0001);
 }
 
 #[test]
