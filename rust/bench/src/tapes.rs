@@ -46,7 +46,7 @@ pub fn all(records: usize) -> [Tape; 5] {
         },
         Tape {
             name: DAY,
-            about: "events of all kinds by four programs that elide eight locks, and take them where that fails",
+            about: "events of all kinds but narrow accesses, by four programs that elide eight locks, and take them where that fails",
             bytes: day::tape(records, SEED),
         },
         Tape {
