@@ -202,6 +202,7 @@ fn vectors_agree() {
     assert!(hold_vectors("test_vectors_more") > 250);
     assert!(hold_vectors("test_vectors_returns") > 200);
     assert!(hold_vectors("test_vectors_pages") > 200);
+    assert!(hold_vectors("test_vectors_bytes") > 250);
 }
 
 #[test]
