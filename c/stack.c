@@ -14,23 +14,25 @@ enum { PROMISED = 256 * 1024, SIZE = 1024 * 1024, FILL = 0xA5, RECORDS = 64 };
 static unsigned char stack[SIZE];
 static uint64_t memory[NASZEPTAN_MEMORY];
 static uint8_t tape[RECORDS * NASZEPTAN_RECORD_SIZE], two[sizeof tape];
+static uint8_t words[sizeof tape];
 static uint8_t answers[RECORDS];
 static struct naszeptan_machine machine;
 static struct naszeptan_session session;
 static ucontext_t back, there;
 static volatile unsigned answer;
 
-/* Events that fill a log, fail and commit: tbegin., stores, an abort. */
-static void fill_tape(void) {
+/* Events that fill a log, fail and commit: tbegin., stores of a kind, whose
+ * indices are multiples of a step, an abort. */
+static void fill_tape(uint8_t *to, uint8_t kind, int step) {
   for (int k = 0; k < RECORDS; k++) {
-    struct naszeptan_event e = {.kind = NASZEPTAN_STD, .ra = 3};
-    e.index = (uint32_t)(k * 7 % 256);
+    struct naszeptan_event e = {.kind = kind, .ra = 3};
+    e.index = (uint32_t)(k * 7 % 256 * step);
     if (k % 16 == 0)
       e = (struct naszeptan_event){.kind = NASZEPTAN_TBEGIN};
     if (k % 16 == 15)
       e = (struct naszeptan_event){.kind = k % 32 == 31 ? NASZEPTAN_TEND
                                                         : NASZEPTAN_TABORT};
-    naszeptan_write(e, tape + k * NASZEPTAN_RECORD_SIZE, NASZEPTAN_RECORD_SIZE);
+    naszeptan_write(e, to + k * NASZEPTAN_RECORD_SIZE, NASZEPTAN_RECORD_SIZE);
   }
 }
 
@@ -45,6 +47,11 @@ static void step(void) {
 
 static void run(void) {
   answer = naszeptan_run(machine, memory, NASZEPTAN_MEMORY, tape, sizeof tape)
+               .answer;
+}
+
+static void runs_words(void) {
+  answer = naszeptan_run(machine, memory, NASZEPTAN_MEMORY, words, sizeof words)
                .answer;
 }
 
@@ -104,15 +111,17 @@ static int held(const char *name, void (*call)(void)) {
 
 int main(void) {
   machine = naszeptan_fresh();
-  fill_tape();
+  fill_tape(tape, NASZEPTAN_STD, 1);
+  fill_tape(words, NASZEPTAN_STW, 4);
   session = naszeptan_open(machine, NASZEPTAN_MEMORY);
   session.held = 5;
   memcpy(session.bytes, tape, session.held);
   return held("nothing", nothing) && held("valid", valid) &&
                  held("step", step) && held("run", run) &&
-                 held("open", opens) && held("feed", feeds) &&
-                 held("close", closes) && held("read", reads) &&
-                 held("three to two", to_two) && held("two to three", to_three)
+                 held("run of stw", runs_words) && held("open", opens) &&
+                 held("feed", feeds) && held("close", closes) &&
+                 held("read", reads) && held("three to two", to_two) &&
+                 held("two to three", to_three)
              ? 0
              : 1;
 }

@@ -9,6 +9,10 @@
 /* The sizes that the archive was compiled for. */
 _Static_assert(sizeof(struct naszeptan_registers) == 264, "registers");
 _Static_assert(sizeof(struct naszeptan_entry) == 16, "entry");
+_Static_assert(offsetof(struct naszeptan_entry, index) == 0, "index");
+_Static_assert(offsetof(struct naszeptan_entry, marks) == 4, "marks");
+_Static_assert(offsetof(struct naszeptan_entry, value) == 8, "value");
+_Static_assert(sizeof((struct naszeptan_entry *)0)->marks == 1, "marks");
 _Static_assert(sizeof(struct naszeptan_transaction) == 1096, "transaction");
 _Static_assert(sizeof(struct naszeptan_control) == 56, "control");
 _Static_assert(offsetof(struct naszeptan_control, texasr) == 32, "texasr");
@@ -71,6 +75,7 @@ static int same_machine(const struct naszeptan_machine *a,
       return 0;
     for (int n = 0; n < NASZEPTAN_PLACES; n++)
       if (p->log[n].index != q->log[n].index ||
+          p->log[n].marks != q->log[n].marks ||
           p->log[n].value != q->log[n].value)
         return 0;
   }
@@ -103,6 +108,15 @@ static struct naszeptan_event store(uint8_t thread, uint8_t ra,
   struct naszeptan_event e = event(NASZEPTAN_STD, thread);
   e.ra = ra;
   e.index = index;
+  return e;
+}
+
+/* A load or store of the kinds 20 to 25, by its byte address. */
+static struct naszeptan_event narrow(uint8_t kind, uint8_t thread, uint8_t r,
+                                     uint32_t address) {
+  struct naszeptan_event e = event(kind, thread);
+  *(kind <= NASZEPTAN_LWZ ? &e.x : &e.ra) = r;
+  e.index = address;
   return e;
 }
 
@@ -195,7 +209,7 @@ static void refusals(void) {
   struct naszeptan_event none = event(0, 9), unused = event(NASZEPTAN_TEND, 9);
   unused.rb = 1;
   refused(m, NASZEPTAN_MEMORY, none, NASZEPTAN_NO_KIND);
-  refused(m, NASZEPTAN_MEMORY, event(20, 0), NASZEPTAN_NO_KIND);
+  refused(m, NASZEPTAN_MEMORY, event(27, 0), NASZEPTAN_NO_KIND);
   refused(m, NASZEPTAN_MEMORY, event(NASZEPTAN_RFID, 0), NASZEPTAN_PRIVILEGED);
   refused(m, NASZEPTAN_MEMORY, unused, NASZEPTAN_FIELD);
   refused(m, 0, none, NASZEPTAN_SIZE);
@@ -705,6 +719,197 @@ static void pages(void) {
   refused(desk, NASZEPTAN_MEMORY, tlbie(0, 0), NASZEPTAN_PRIVILEGED);
 }
 
+/* The fresh machine on the desk, over a memory of zeros. */
+static void wiped(void) {
+  memset(memory, 0, sizeof memory);
+  desk = naszeptan_fresh();
+}
+
+/* Thread 0 gets this by a load of the kind at the address. The register was not
+ * zero in any byte. */
+static void loads(uint8_t kind, uint32_t address, uint64_t wanted) {
+  desk.threads[0].live.gpr[7] = UINT64_MAX;
+  spares(narrow(kind, 0, 7, address));
+  CHECK(desk.threads[0].live.gpr[7] == wanted);
+}
+
+/* Thread 0 stores this value by the kind at the address, and fails no one. */
+static void stores(uint8_t kind, uint64_t value, uint32_t address) {
+  desk.threads[0].live.gpr[3] = value;
+  spares(narrow(kind, 0, 3, address));
+}
+
+/* Thread 0's log has so many places, and this one is so. */
+static int logged(size_t count, size_t place, uint32_t index, uint8_t marks,
+                  uint64_t value) {
+  const struct naszeptan_transaction *t = &desk.threads[0].transaction;
+  return t->count == count && t->log[place].index == index &&
+         t->log[place].marks == marks && t->log[place].value == value;
+}
+
+/* docs/RULES.md, K27 and K28: bytes of memory; byte 0 is the highest. */
+static void bytes_in_memory(void) {
+  const uint64_t value = UINT64_C(0x1122334455667788);
+  wiped();
+  stores(NASZEPTAN_STB, value, 8);
+  CHECK(memory[1] == UINT64_C(0x8800000000000000));
+  stores(NASZEPTAN_STH, value, 10);
+  CHECK(memory[1] == UINT64_C(0x8800778800000000));
+  stores(NASZEPTAN_STW, value, 12);
+  CHECK(memory[1] == UINT64_C(0x8800778855667788));
+  CHECK(memory[0] == 0 && memory[2] == 0);
+  memory[1] = value;
+  loads(NASZEPTAN_LBZ, 8, 0x11);
+  loads(NASZEPTAN_LBZ, 15, 0x88);
+  loads(NASZEPTAN_LHZ, 10, 0x3344);
+  loads(NASZEPTAN_LWZ, 12, 0x55667788);
+  /* As the header has it, for each byte. */
+  for (uint32_t a = 8; a < 16; a++)
+    loads(NASZEPTAN_LBZ, a, memory[a / 8] >> (56 - a % 8 * 8) & 0xFF);
+}
+
+/* K29 to K31: which bytes the log has, what is seen over memory, and what a
+ * commit changes. */
+static void bytes_in_the_log(void) {
+  wiped();
+  spares(event(NASZEPTAN_TBEGIN, 0));
+  stores(NASZEPTAN_STW, 1, 4);
+  CHECK(logged(1, 0, 0, 0x0F, 1));
+  stores(NASZEPTAN_STW, 2, 0);
+  CHECK(logged(1, 0, 0, NASZEPTAN_ALL_MARKS, UINT64_C(0x0000000200000001)));
+  CHECK(memory[0] == 0);
+  wiped();
+  memory[2] = UINT64_C(0x1111111111111111);
+  spares(event(NASZEPTAN_TBEGIN, 0));
+  stores(NASZEPTAN_STH, 0xABCD, 18);
+  CHECK(logged(1, 0, 2, 0x30, UINT64_C(0x0000ABCD00000000)));
+  spares(load(0, 7, 2));
+  CHECK(desk.threads[0].live.gpr[7] == UINT64_C(0x1111ABCD11111111));
+  CHECK(desk.threads[0].transaction.reads.words[0] == 1);
+  CHECK(desk.threads[0].transaction.writes.words[0] == 1);
+  loads(NASZEPTAN_LBZ, 18, 0xAB);
+  loads(NASZEPTAN_LWZ, 16, 0x1111ABCD);
+  loads(NASZEPTAN_LWZ, 20, 0x11111111);
+  wiped();
+  memory[0] = UINT64_C(0xAAAAAAAA00000000);
+  spares(event(NASZEPTAN_TBEGIN, 0));
+  stores(NASZEPTAN_STW, 7, 4);
+  spares(event(NASZEPTAN_TEND, 0));
+  CHECK(memory[0] == UINT64_C(0xAAAAAAAA00000007));
+}
+
+/* K32: addresses that are no multiple of the width, or past memory. */
+static void addresses(void) {
+  static const uint8_t widths[] = {1, 2, 4, 1, 2, 4};
+  struct naszeptan_machine m = naszeptan_fresh();
+  for (uint8_t kind = NASZEPTAN_LBZ; kind <= NASZEPTAN_STW; kind++) {
+    uint32_t width = widths[kind - NASZEPTAN_LBZ], end = 8 * NASZEPTAN_LINE;
+    for (uint32_t a = 0; a < 16; a++)
+      if (a % width != 0)
+        refused(m, NASZEPTAN_LINE, narrow(kind, 0, 3, a), NASZEPTAN_OPERAND);
+    refused(m, NASZEPTAN_LINE, narrow(kind, 0, 3, end), NASZEPTAN_OPERAND);
+    refused(m, NASZEPTAN_MEMORY, narrow(kind, 0, 3, 8 * NASZEPTAN_MEMORY),
+            NASZEPTAN_OPERAND);
+    refused(m, NASZEPTAN_MEMORY, narrow(kind, 0, 3, UINT32_MAX - width + 1),
+            NASZEPTAN_OPERAND);
+    refused(m, NASZEPTAN_LINE, narrow(kind, 0, 32, 0), NASZEPTAN_OPERAND);
+    struct naszeptan_event last = narrow(kind, 0, 3, end - width),
+                           unused = last;
+    CHECK(naszeptan_step(m, memory, NASZEPTAN_LINE, last).answer == 0);
+    unused.rb = 1;
+    refused(m, NASZEPTAN_LINE, unused, NASZEPTAN_FIELD);
+    /* It is neither a TM instruction nor privileged. */
+    m.threads[0].control.tm = 0;
+    CHECK(naszeptan_step(m, memory, NASZEPTAN_LINE, last).answer == 0);
+    m.threads[0].control.tm = 1;
+  }
+  refused(m, NASZEPTAN_LINE, load(0, 3, 16), NASZEPTAN_OPERAND);
+}
+
+/* K33, K34 and K36: conflicts go by the line, whatever bytes are accessed. */
+static void conflicts_of_bytes(void) {
+  wiped();
+  spares(event(NASZEPTAN_TBEGIN, 0));
+  spares(narrow(NASZEPTAN_LBZ, 0, 4, 0));
+  spares(narrow(NASZEPTAN_STB, 1, 5, 128));
+  fails(narrow(NASZEPTAN_STB, 1, 5, 127), NASZEPTAN_DONE, 1);
+  CHECK(desk.threads[0].control.texasr == UINT64_C(0x0008000018000001));
+  wiped();
+  spares(event(NASZEPTAN_TBEGIN, 0));
+  stores(NASZEPTAN_STB, 0xFF, 0);
+  spares(flagged(NASZEPTAN_TSR, 0));
+  loads(NASZEPTAN_LBZ, 0, 0xFF);
+  fails(narrow(NASZEPTAN_STB, 0, 3, 9), NASZEPTAN_RECORDED, 1);
+  CHECK(desk.threads[0].control.texasr == UINT64_C(0x001000009C000001));
+  CHECK(memory[0] == 0 && memory[1] == UINT64_C(0x00FF000000000000));
+  /* A lock's word at 0 and a counter at 4. */
+  for (int taken = 0; taken < 2; taken++) {
+    wiped();
+    desk.threads[1].live.gpr[5] = 1;
+    spares(event(NASZEPTAN_TBEGIN, 0));
+    loads(NASZEPTAN_LWZ, 0, 0);
+    loads(NASZEPTAN_LWZ, 4, 0);
+    stores(NASZEPTAN_STW, 1, 4);
+    if (taken) {
+      fails(narrow(NASZEPTAN_STW, 1, 5, 0), NASZEPTAN_DONE, 1);
+      CHECK(desk.threads[0].control.texasr == UINT64_C(0x0008000018000001));
+    }
+    spares(event(NASZEPTAN_TEND, 0));
+    CHECK(memory[0] == (taken ? UINT64_C(0x0000000100000000) : 1));
+  }
+}
+
+/* K35: a full log takes other bytes of its doublewords, and no other one. */
+static void a_log_full_of_bytes(void) {
+  wiped();
+  spares(event(NASZEPTAN_TBEGIN, 0));
+  for (uint32_t n = 0; n < NASZEPTAN_PLACES; n++)
+    stores(NASZEPTAN_STB, n, 8 * n);
+  stores(NASZEPTAN_STB, 0x55, 505);
+  CHECK(logged(64, 63, 63, 0xC0, UINT64_C(0x3F55000000000000)));
+  fails(narrow(NASZEPTAN_STB, 0, 3, 512), NASZEPTAN_HANDLED, 1);
+  CHECK(desk.threads[0].control.texasr == UINT64_C(0x002000001C000001));
+}
+
+/* docs/RULES.md, V2 and V15: a used place has some mark, bytes without one are
+ * zero, and so are places past the count. */
+static void marks(void) {
+  wiped();
+  spares(event(NASZEPTAN_TBEGIN, 0));
+  stores(NASZEPTAN_STB, 0x12, 3);
+  CHECK(logged(1, 0, 0, 0x10, UINT64_C(0x0000001200000000)));
+  const struct naszeptan_event begin = event(NASZEPTAN_TBEGIN, 1);
+  for (int k = 0; k < 8; k++) {
+    struct naszeptan_machine m = desk;
+    struct naszeptan_entry *place = m.threads[0].transaction.log;
+    uint64_t byte = UINT64_C(1) << (56 - 8 * k);
+    place->value = byte;
+    place->marks = (uint8_t)(0x80 >> k);
+    CHECK(naszeptan_valid(m, NASZEPTAN_MEMORY) == NASZEPTAN_DONE);
+    place->marks = (uint8_t)~place->marks;
+    refused(m, NASZEPTAN_MEMORY, begin, NASZEPTAN_NO_MACHINE);
+    place->value = 0;
+    CHECK(naszeptan_valid(m, NASZEPTAN_MEMORY) == NASZEPTAN_DONE);
+    place->marks = 0;
+    refused(m, NASZEPTAN_MEMORY, begin, NASZEPTAN_NO_MACHINE);
+    place->marks = NASZEPTAN_ALL_MARKS;
+    place->value = byte;
+    CHECK(naszeptan_valid(m, NASZEPTAN_MEMORY) == NASZEPTAN_DONE);
+    place[1 + k].marks = (uint8_t)(1 << k);
+    refused(m, NASZEPTAN_MEMORY, begin, NASZEPTAN_NO_MACHINE);
+  }
+  wiped();
+}
+
+static void narrow_accesses(void) {
+  bytes_in_memory();
+  bytes_in_the_log();
+  addresses();
+  conflicts_of_bytes();
+  a_log_full_of_bytes();
+  marks();
+}
+
 /* docs/RULES.md, E0.11: what TS and TM become by the state and TM before (N, 0;
  * N, 1; S, 0; S, 1) and the TS and TM that are asked (N, S, T, no state, each
  * with TM = 0 and 1); 13 is a Bad Thing. */
@@ -826,6 +1031,18 @@ static void records(void) {
   struct naszeptan_record r = naszeptan_read(buffer, 16);
   CHECK(r.answer == 0 && r.event.kind == 13 && r.event.ra == 3 &&
         r.event.index == 17);
+  /* A byte address stands where an index does. */
+  static const uint8_t lwz[16] = {0xE3, 22, 2, 7, 0, 0, 0, 0, 1, 2, 3, 4};
+  static const uint8_t sth[16] = {0xE3, 24, 2, 0, 7, 0, 0, 0, 1, 2, 3, 4};
+  for (int n = 0; n < 2; n++) {
+    uint8_t kind = n == 0 ? NASZEPTAN_LWZ : NASZEPTAN_STH, record[16];
+    e = narrow(kind, 2, 7, UINT32_C(0x01020304));
+    CHECK(naszeptan_write(e, record, 16) == NASZEPTAN_DONE);
+    CHECK(memcmp(record, n == 0 ? lwz : sth, 16) == 0);
+    r = naszeptan_read(record, 16);
+    CHECK(r.answer == 0 && r.event.kind == kind && r.event.thread == 2);
+    CHECK(r.event.x == e.x && r.event.ra == e.ra && r.event.index == e.index);
+  }
   CHECK(naszeptan_read(buffer, 17).answer == NASZEPTAN_TAPE_LENGTH);
   CHECK(naszeptan_read(NULL, 0).answer == NASZEPTAN_TAPE_LENGTH);
   buffer[14] = 1;
@@ -882,7 +1099,7 @@ static void writer_of_edition_two(void) {
   unused = far;
   unused.rb = 1;
   none = unused;
-  none.kind = 20;
+  none.kind = 27;
   memset(buffer, 0xAA, sizeof buffer);
   for (size_t bytes = 0; bytes <= 17; bytes++) {
     CHECK(naszeptan_write_two(none, buffer, bytes) == NASZEPTAN_NO_KIND);
@@ -896,7 +1113,7 @@ static void writer_of_edition_two(void) {
   CHECK(memcmp(buffer, two, 16) == 0 && kept(buffer, 16, 17));
   /* Edition two has no kind above 17, and tells the thread first. */
   memset(buffer, 0xAA, sizeof buffer);
-  for (uint8_t kind = NASZEPTAN_RFID; kind <= NASZEPTAN_MTMSRD; kind++) {
+  for (uint8_t kind = NASZEPTAN_RFID; kind <= NASZEPTAN_TLBIE; kind++) {
     CHECK(naszeptan_write_two(event(kind, 3), buffer, 17) == NASZEPTAN_NO_KIND);
     CHECK(naszeptan_write_two(event(kind, 3), buffer, 15) == NASZEPTAN_NO_KIND);
     CHECK(naszeptan_write_two(event(kind, 4), buffer, 17) ==
@@ -938,7 +1155,7 @@ static void converts(converter *convert, const uint8_t *from,
   memcpy(tape + 16, from, 16);
   tape[16 + 15] = 1;
   not_converted(convert, tape, 32, 32, NASZEPTAN_FIELD, 1);
-  tape[16 + 1] = 20;
+  tape[16 + 1] = 27;
   not_converted(convert, tape, 32, 32, NASZEPTAN_NO_KIND, 1);
   /* 6 comes before 10, and 10 before a record. */
   not_converted(convert, tape, 32, 31, NASZEPTAN_SHORT_BUFFER, 0);
@@ -957,9 +1174,11 @@ static void converters(void) {
   not_converted(naszeptan_three_to_two, tape, 16, 16, NASZEPTAN_NO_THREAD, 0);
   tape[7] = 1;
   not_converted(naszeptan_three_to_two, tape, 16, 16, NASZEPTAN_FIELD, 0);
-  /* Nor has it rfid. */
-  CHECK(naszeptan_write(event(NASZEPTAN_RFID, 0), tape, 16) == NASZEPTAN_DONE);
-  not_converted(naszeptan_three_to_two, tape, 16, 16, NASZEPTAN_NO_KIND, 0);
+  /* Nor has it rfid, or any kind behind that. */
+  for (uint8_t kind = NASZEPTAN_RFID; kind <= NASZEPTAN_TLBIE; kind++) {
+    CHECK(naszeptan_write(event(kind, 0), tape, 16) == NASZEPTAN_DONE);
+    not_converted(naszeptan_three_to_two, tape, 16, 16, NASZEPTAN_NO_KIND, 0);
+  }
 }
 
 int main(void) {
@@ -975,6 +1194,7 @@ int main(void) {
   fields();
   returns();
   pages();
+  narrow_accesses();
   special_registers();
   records();
   reader_of_edition_two();

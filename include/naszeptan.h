@@ -34,7 +34,7 @@ extern "C" {
 /* The version of the rules that this header was written for: the model's
  * version in the upper 16 bits, the change requests that have landed in the
  * lower. naszeptan_version() gives the archive's. */
-#define NASZEPTAN_VERSION UINT32_C(0x00040009)
+#define NASZEPTAN_VERSION UINT32_C(0x0004000A)
 
 /* Sizes. */
 #define NASZEPTAN_THREADS 4        /* thread records of a machine */
@@ -45,6 +45,7 @@ extern "C" {
 #define NASZEPTAN_PAGE 32          /* lines of a page */
 #define NASZEPTAN_MEMORY 4096      /* doublewords of the largest memory */
 #define NASZEPTAN_PLACES 64        /* places of a transaction's log */
+#define NASZEPTAN_ALL_MARKS 0xFF   /* the marks of a whole doubleword */
 #define NASZEPTAN_LEVELS 4095      /* the highest level of a transaction */
 #define NASZEPTAN_RECORD_SIZE 16   /* bytes of a tape record */
 #define NASZEPTAN_FIRST_BYTE 0xE3  /* first byte of a record, edition three */
@@ -56,14 +57,14 @@ enum naszeptan_answer {
   NASZEPTAN_SIZE = 1,          /* memory length or thread count */
   NASZEPTAN_NO_MACHINE = 2,    /* not a valid machine, or no session */
   NASZEPTAN_NO_THREAD = 3,     /* the event's thread is not below the count */
-  NASZEPTAN_OPERAND = 4,       /* register, BF, TO, SPR, index or page out of
-                                  range */
+  NASZEPTAN_OPERAND = 4,       /* register, BF, TO, SPR, index, address or page
+                                  out of range; an address that is no multiple
+                                  of the access's width */
   NASZEPTAN_HOST_IN_T = 5,     /* the host event on a Transactional thread */
   NASZEPTAN_TAPE_LENGTH = 6,   /* tape not a multiple of 16 bytes */
   NASZEPTAN_BAD_FIRST_BYTE = 7,/* a record's first byte is not 0xE3; edition two:
                                   above 3 */
-  NASZEPTAN_NO_KIND = 8,       /* kind not 1 to 19 or 26; edition two: not 1 to
-                                  17 */
+  NASZEPTAN_NO_KIND = 8,       /* kind not 1 to 26; edition two: not 1 to 17 */
   NASZEPTAN_FIELD = 9,         /* an unused field or a fixed byte is not 0, or
                                   flags too big */
   NASZEPTAN_SHORT_BUFFER = 10, /* the writer's buffer has under 16 bytes */
@@ -82,8 +83,15 @@ enum naszeptan_state {
   NASZEPTAN_S = 2  /* Suspended */
 };
 
-/* The twenty kinds of event, and the fields that each uses. A field that its
- * kind does not use must be 0. 20 to 25 are no kinds. */
+/* The twenty-six kinds of event, and the fields that each uses. A field that
+ * its kind does not use must be 0.
+ *
+ * ld and std name a doubleword by its index. Kinds 20 to 25 name bytes: their
+ * index is a byte address, a multiple of the width, 1, 2 or 4, and below 8 times
+ * the memory's length; else 4. Byte 0 of a doubleword is its highest: address a
+ * is byte a % 8 of doubleword a / 8, so memory[a / 8] >> (56 - a % 8 * 8) & 0xFF.
+ * These loads make the rest of the register 0, these stores take its low bytes.
+ * Edition two has none of the six. */
 enum naszeptan_kind {
   NASZEPTAN_TBEGIN = 1,     /* flags: R */
   NASZEPTAN_TEND = 2,       /* flags: A */
@@ -104,6 +112,12 @@ enum naszeptan_kind {
   NASZEPTAN_HOST = 17,      /* flags: PR + 2 * TM */
   NASZEPTAN_RFID = 18,      /* none: SRR1 asks */
   NASZEPTAN_MTMSRD = 19,    /* flags: TS + 4 * TM + 8 * PR */
+  NASZEPTAN_LBZ = 20,       /* x: RT, index: the address of a byte */
+  NASZEPTAN_LHZ = 21,       /* x: RT, index: the address of two bytes */
+  NASZEPTAN_LWZ = 22,       /* x: RT, index: the address of four bytes */
+  NASZEPTAN_STB = 23,       /* ra, index: the address of a byte */
+  NASZEPTAN_STH = 24,       /* ra, index: the address of two bytes */
+  NASZEPTAN_STW = 25,       /* ra, index: the address of four bytes */
   NASZEPTAN_TLBIE = 26      /* index: the page, of NASZEPTAN_PAGE lines */
 };
 
@@ -222,9 +236,15 @@ struct naszeptan_lines {
   uint64_t words[NASZEPTAN_LINE_WORDS];
 };
 
-/* One logged store: the doubleword's index in memory, and its value. */
+/* A place of the log: a doubleword that was stored to, by its index in memory;
+ * which of its bytes were stored; and those bytes, where they stand in it. Byte
+ * k, of which 0 is the highest, has the mark 0x80 >> k: 0x80 is byte 0 alone,
+ * 0x0F the bytes 4 to 7, NASZEPTAN_ALL_MARKS all eight, as std stores them. A
+ * commit changes the marked bytes of memory and no others. A used place has some
+ * mark, and the bytes of value without one are 0 (docs/RULES.md, V15). */
 struct naszeptan_entry {
   uint32_t index;
+  uint8_t marks;
   uint64_t value;
 };
 
@@ -328,7 +348,7 @@ struct naszeptan_machine naszeptan_fresh(void);
 
 /* Whether these bits are a machine over a memory of len doublewords: 0, or 1
  * (memory length or thread count), or 2 (not a valid machine). What is valid
- * is in docs/RULES.md, V1 to V14; a machine that a call gave back is valid if
+ * is in docs/RULES.md, V1 to V15; a machine that a call gave back is valid if
  * the one handed in was. */
 uint8_t naszeptan_valid(struct naszeptan_machine machine, size_t len);
 

@@ -8,6 +8,7 @@
 
 mod day;
 mod growth;
+mod ledger;
 mod measure;
 mod setting;
 mod sides;
@@ -39,15 +40,15 @@ fn line(name: &str, records: usize, times: &Times) -> String {
     )
 }
 
-/// The share of each kind in a tape, five to a line.
+/// The share of each kind that a tape has, five to a line.
 fn shares(tape: &[u8]) -> String {
     let counts = tapes::kinds(tape);
     let all: usize = counts.iter().sum();
     let share = |(kind, count): (&Kind, &usize)| {
         let share = *count as f64 * 100.0 / all as f64;
-        format!("{:10} {share:5.2} %", kind.name)
+        (*count > 0).then(|| format!("{:10} {share:5.2} %", kind.name))
     };
-    let shares: Vec<String> = KINDS.iter().zip(&counts).map(share).collect();
+    let shares: Vec<String> = KINDS.iter().zip(&counts).filter_map(share).collect();
     let lines: Vec<String> = shares.chunks(5).map(|line| line.join("   ")).collect();
     lines.join("\n")
 }
@@ -107,8 +108,10 @@ fn explain(tapes: &[Tape]) {
     for tape in tapes {
         println!("{}: {}", tape.name, tape.about);
     }
-    for day in tapes.iter().filter(|tape| tape.name == tapes::DAY) {
-        println!("\nits kinds:\n{}", shares(&day.bytes));
+    for tape in tapes {
+        if [tapes::DAY, tapes::NARROW].contains(&tape.name) {
+            println!("\n{}, its kinds:\n{}", tape.name, shares(&tape.bytes));
+        }
     }
 }
 

@@ -1,7 +1,7 @@
-//! The four tapes. Each is for the fresh machine, has just the records asked
+//! The five tapes. Each is for the fresh machine, has just the records asked
 //! for, and every record is done.
 
-use crate::day;
+use crate::{day, ledger};
 use model::gen;
 use model::machine::{LINE, LOG, MAX_MEMORY, THREADS};
 use model::tape::{encode, RECORD};
@@ -18,13 +18,15 @@ pub struct Tape {
     pub bytes: Vec<u8>,
 }
 
-/// The name of the tape that has every kind.
+/// The name of the tape that has every kind but the narrow accesses.
 pub const DAY: &str = "a lock library's day";
+/// The name of the tape of narrow accesses.
+pub const NARROW: &str = "narrow";
 /// The seed of the day that is timed.
 const SEED: u64 = 1;
 
-/// All four.
-pub fn all(records: usize) -> [Tape; 4] {
+/// All five.
+pub fn all(records: usize) -> [Tape; 5] {
     [
         Tape {
             name: "short transactions",
@@ -44,8 +46,13 @@ pub fn all(records: usize) -> [Tape; 4] {
         },
         Tape {
             name: DAY,
-            about: "events of all kinds by four programs that elide eight locks, and take them where that fails",
+            about: "events of all kinds but narrow accesses, by four programs that elide eight locks, and take them where that fails",
             bytes: day::tape(records, SEED),
+        },
+        Tape {
+            name: NARROW,
+            about: "a ledger in words of four bytes, the threads in turn: tbegin., lwz of a lock, lwz, addi, stw of a balance, some notes of other widths, tend.",
+            bytes: repeated(records, THREADS, ledger::booking),
         },
     ]
 }
@@ -130,9 +137,31 @@ mod tests {
         }
     }
 
+    /// FNV-1a over the bytes.
+    fn sum(bytes: &[u8]) -> u64 {
+        bytes.iter().fold(0xCBF2_9CE4_8422_2325, |sum, &byte| {
+            (sum ^ u64::from(byte)).wrapping_mul(0x0000_0100_0000_01B3)
+        })
+    }
+
+    /// So that figures of different versions are of the same tapes. A tape that
+    /// is meant to change gets a new sum.
+    #[test]
+    fn tapes_stay_as_they_are() {
+        let sums = all(20_000).map(|tape| (tape.name, sum(&tape.bytes)));
+        let right = [
+            ("short transactions", 0x1918_577D_095E_7365),
+            ("full logs", 0x7FED_5815_0EDC_3164),
+            ("one line", 0x5D9C_61F2_7D43_0844),
+            (DAY, 0x7D49_A94B_53CF_AFE5),
+            (NARROW, 0x31CB_838B_30B1_ACF1),
+        ];
+        assert_eq!(sums, right);
+    }
+
     #[test]
     fn full_logs_are_full() {
-        let tape = all(65).into_iter().nth(1).expect("four tapes");
+        let tape = all(65).into_iter().nth(1).expect("five tapes");
         let begun: Vec<u8> = full_log(0)[..65]
             .iter()
             .flat_map(|&e| encode(0, e))

@@ -6,10 +6,12 @@ use std::fmt;
 
 use model::gen::Rng;
 
+use crate::accesses;
 use crate::calls;
 use crate::cells::Before;
 use crate::counts::Counts;
 use crate::editions;
+use crate::marks::By;
 use crate::pair::Pair;
 use crate::past::Past;
 use crate::plan::Plan;
@@ -123,16 +125,25 @@ fn sequence<S: Side>(
         records.push(record(e));
         let before = Before::of(pair.machine(), e.thread);
         let event = model::read(&record(e));
-        let sights = event.map_or(0, |(thread, e)| {
+        let sights = event.map_or(sights::Seen::default(), |(thread, e)| {
             let len = pair.memory().len();
             sights::seen((pair.machine(), len), &past, thread, e)
+        });
+        let access = event.map_or(None, |(thread, e)| {
+            accesses::place(pair.machine(), pair.memory().len(), thread, e)
         });
         let returns = event.map_or(None, |(thread, e)| {
             returns::place(pair.machine(), thread, e)
         });
         match pair.step(side, e) {
             Ok(done) => {
-                counts.event(e.kind, before, done.answer, sights);
+                counts.event(e.kind, before, done.answer, &sights);
+                if done.answer == 2 {
+                    // It is the machine from before.
+                    let len = pair.memory().len();
+                    counts.marks.refused(By::Step, pair.machine(), len);
+                }
+                counts.accesses.note(access, done.answer);
                 counts.returns.note(returns, done.answer);
                 counts.failed(e, before, done);
             }

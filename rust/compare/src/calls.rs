@@ -8,6 +8,7 @@ use naszeptan::raw;
 use crate::batch::Found;
 use crate::cells::Call;
 use crate::counts::Counts;
+use crate::marks::By;
 use crate::pair::to_raw;
 use crate::plan::damaged;
 use crate::runs::loose_bytes;
@@ -61,6 +62,9 @@ fn valid<S: Side>(side: &S, rng: &mut Rng, counts: &mut Counts) -> Result<(), Fo
     let given = side.valid(&to_raw(&m), len);
     same(|| format!("valid of {start:?} with {len}"), right, given)?;
     counts.call(Call::Valid, right);
+    if right == 2 {
+        counts.marks.refused(By::Valid, &m, len);
+    }
     Ok(())
 }
 

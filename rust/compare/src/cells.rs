@@ -89,6 +89,22 @@ const INVALIDATES: [Cell; 5] = [
     (&[0], "FS is 1: nothing of its own is recorded again"),
 ];
 const RECORDED: Cell = (&[0], "FS is 1: nothing is recorded again");
+/// A load of any width.
+const LOADS: [Cell; 5] = [
+    OUTSIDE,
+    OUTSIDE,
+    (&[0, 20], "in T an overflow is handled at once"),
+    (&[0], "a load in S adds no line and fails others only"),
+    (&[0], "a load in S adds no line and fails others only"),
+];
+/// A store of any width.
+const STORES: [Cell; 5] = [
+    OUTSIDE,
+    OUTSIDE,
+    (&[0, 20], "in T an overflow is handled at once"),
+    (&[0, 21], "in S handling waits for tresume"),
+    (&[0], "the sets are empty: no line is its own"),
+];
 
 /// tabortwc. and tabortdc.
 const COMPARES: [Cell; 5] = [
@@ -169,21 +185,9 @@ const CELLS: [[Cell; 5]; KINDS.len()] = [
     // mfspr
     [MOVES; 5],
     // ld
-    [
-        OUTSIDE,
-        OUTSIDE,
-        (&[0, 20], "in T an overflow is handled at once"),
-        (&[0], "a load in S adds no line and fails others only"),
-        (&[0], "a load in S adds no line and fails others only"),
-    ],
+    LOADS,
     // std
-    [
-        OUTSIDE,
-        OUTSIDE,
-        (&[0, 20], "in T an overflow is handled at once"),
-        (&[0, 21], "in S handling waits for tresume"),
-        (&[0], "the sets are empty: no line is its own"),
-    ],
+    STORES,
     // addi
     [MOVES; 5],
     // disallowed
@@ -202,6 +206,18 @@ const CELLS: [[Cell; 5]; KINDS.len()] = [
     ASKS,
     // mtmsrd
     ASKS,
+    // lbz
+    LOADS,
+    // lhz
+    LOADS,
+    // lwz
+    LOADS,
+    // stb
+    STORES,
+    // sth
+    STORES,
+    // stw
+    STORES,
     // tlbie
     INVALIDATES,
 ];

@@ -8,7 +8,7 @@ use naszeptan::{raw, KINDS};
 use crate::cells::{self, Before, Call, CALLS, CALL_ROWS, NUMBERS, SHOWN, STATES};
 use crate::editions;
 use crate::masks::{self, Mask, MASKS};
-use crate::{returns, runs, sessions, sights};
+use crate::{accesses, marks, returns, runs, sessions, sights};
 
 /// From so many events on, all that can be met must be. Of a quarter of them the
 /// rarest are met three to five times, so that fewer may miss one by chance.
@@ -30,6 +30,10 @@ pub struct Counts {
     masks: Vec<[[u64; MASKS]; STATES]>,
     sights: [u64; sights::SIGHTS],
     calls: [[u64; NUMBERS]; CALLS],
+    /// What was met of loads and stores by their bytes.
+    pub accesses: accesses::Met,
+    /// Machines that were refused for their marks.
+    pub marks: marks::Met,
     /// What was met of rfid, mtmsrd, SRR0 and SRR1.
     pub returns: returns::Met,
     /// Records done by runs.
@@ -49,6 +53,8 @@ impl Default for Counts {
             masks: vec![[[0; MASKS]; STATES]; KINDS.len() + 1],
             sights: [0; sights::SIGHTS],
             calls: [[0; NUMBERS]; CALLS],
+            accesses: accesses::Met::default(),
+            marks: marks::Met::default(),
             returns: returns::Met::default(),
             records: 0,
             runs: runs::cells::Met::default(),
@@ -70,7 +76,7 @@ pub(crate) fn place(answer: u8) -> usize {
 
 impl Counts {
     /// One event on which both sides agreed, and its sights.
-    pub fn event(&mut self, kind: u8, before: Before, answer: u8, sights: u128) {
+    pub fn event(&mut self, kind: u8, before: Before, answer: u8, sights: &sights::Seen) {
         let before = match answer {
             1 | 2 | 3 | 8 | 9 => Before::Nobody,
             _ => before,
@@ -78,7 +84,7 @@ impl Counts {
         self.cells[kind_place(kind)][before as usize][place(answer)] += 1;
         if model::answer::is_done(answer) {
             for (bit, count) in self.sights.iter_mut().enumerate() {
-                *count += (sights >> bit & 1) as u64;
+                *count += u64::from(sights.has(bit));
             }
         }
     }
@@ -105,6 +111,8 @@ impl Counts {
             .chain(self.masks.as_flattened().as_flattened())
             .chain(&self.sights)
             .chain(self.calls.as_flattened())
+            .chain(self.accesses.numbers())
+            .chain(self.marks.numbers())
             .chain(self.returns.numbers())
             .chain([&self.records])
             .chain(self.runs.numbers())
@@ -121,6 +129,8 @@ impl Counts {
             .chain(self.masks.as_flattened_mut().as_flattened_mut())
             .chain(&mut self.sights)
             .chain(self.calls.as_flattened_mut())
+            .chain(self.accesses.numbers_mut())
+            .chain(self.marks.numbers_mut())
             .chain(self.returns.numbers_mut())
             .chain([&mut self.records])
             .chain(self.runs.numbers_mut())
@@ -176,6 +186,8 @@ impl Counts {
             .chain(self.all_masks())
             .chain(sights)
             .chain(self.all_calls())
+            .chain(self.accesses.rows())
+            .chain(self.marks.rows())
             .chain(self.returns.rows())
             .chain(self.runs.rows())
             .chain(self.editions.rows())
@@ -237,7 +249,9 @@ impl Counts {
         for (met, (_, name, _)) in self.sights.iter().zip(&sights::ALL) {
             let _ = writeln!(text, "{met:>9}  {name}");
         }
-        text + &self.returns.tables()
+        text + &self.accesses.tables()
+            + &self.marks.table()
+            + &self.returns.tables()
             + &self.runs.table()
             + &self.editions.tables()
             + &self.sessions.tables()

@@ -8,8 +8,10 @@
 //! - [`plan`]: which event comes next.
 //! - [`cells`]: which answers can be met where, by hand from docs/RULES.md.
 //! - [`masks`]: who can fail in which event, by hand from there too.
+//! - [`accesses`]: a load or a store of any width, by its bytes.
 //! - [`sights`]: situations that must be met beside those.
 //! - [`past`]: what of a transaction's past they need.
+//! - [`marks`]: machines that are refused for the marks of their logs.
 //! - [`returns`]: rfid, mtmsrd, SRR0 and SRR1, cell by cell.
 //! - [`counts`]: how often each was met, and what was not.
 //! - [`batch`]: a numbered piece of the comparison, and a worker's share.
@@ -24,12 +26,14 @@
 #![forbid(unsafe_code)]
 #![deny(missing_docs)]
 
+pub mod accesses;
 pub mod batch;
 pub mod calls;
 pub mod cells;
 pub mod counts;
 pub mod editions;
 pub mod lent;
+pub mod marks;
 pub mod masks;
 pub mod pair;
 pub mod past;

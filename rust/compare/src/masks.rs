@@ -71,8 +71,8 @@ pub fn why_not(kind: u8, before: Before, mask: Mask) -> Option<&'static str> {
     }
     match (kind, mask.others) {
         (_, 0) => None,
-        (12, 2..) => Some("no two threads write one line"),
-        (12 | 13, _) => cannot(
+        (12 | 20..=22, 2..) => Some("no two threads write one line"),
+        (12 | 13 | 20..=25, _) => cannot(
             !mask.own || before == Before::S,
             "an overflow touches no other thread",
         ),

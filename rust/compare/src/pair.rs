@@ -157,7 +157,7 @@ fn first_difference(ours: &Thread, theirs: &raw::Thread) -> Option<&'static str>
         (
             "log",
             log.fold(true, |same, (a, b)| {
-                same & (a.index == b.index) & (a.value == b.value)
+                same & (a.index == b.index) & (a.marks == b.marks) & (a.value == b.value)
             }),
         ),
     ]
@@ -215,6 +215,7 @@ fn to_raw_thread(t: &Thread) -> raw::Thread {
             count: t.count,
             log: std::array::from_fn(|n| raw::Entry {
                 index: t.log[n].index,
+                marks: t.log[n].marks,
                 value: t.log[n].value,
             }),
         },

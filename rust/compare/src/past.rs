@@ -1,8 +1,10 @@
 //! What the machine does not show of a transaction: that it was a ROT until a
 //! nested tbegin. turned ROT off, and what it loaded before that (rule E1).
 
-use model::machine::{LINE, THREADS};
+use model::machine::THREADS;
 use model::{Event, LineSet, Machine, State, Thread};
+
+use crate::accesses::Access;
 
 /// One thread: its transaction so far, and what was last seen of it.
 #[derive(Clone, Copy)]
@@ -32,8 +34,10 @@ impl Rot {
         let mut next = self;
         match e {
             Event::Tbegin { .. } if self.on => next.off |= !t.rot(),
-            Event::Ld { index, .. } if self.on && t.nia != self.nia => {
-                next.loaded.insert(index as usize / LINE);
+            _ if self.on && t.nia != self.nia => {
+                if let Some(access) = Access::of(e).filter(|access| !access.store) {
+                    next.loaded.insert(access.line());
+                }
             }
             _ => {}
         }

@@ -96,9 +96,23 @@ fn pressed(rng: &mut Rng, m: &Machine, len: usize) -> Event {
     let from = rng.below(lines);
     let line = (from..lines).chain(0..from).find(|&l| had.contains(l));
     let index = (line.unwrap_or(from) * LINE + rng.below(LINE)) as u32;
-    match rng.flag() {
-        true => Event::Ld { rt: 5, index },
-        false => Event::Std { ra: 5, index },
+    let store = rng.flag();
+    access(rng, store, 5, index)
+}
+
+/// A load or a store of any width in this doubleword.
+fn access(rng: &mut Rng, store: bool, r: u8, index: u32) -> Event {
+    let width = rng.pick([1, 2, 4, 8]);
+    let address = index.wrapping_mul(8) + rng.below(8) as u32 / width * width;
+    match (store, width) {
+        (false, 1) => Event::Lbz { rt: r, address },
+        (false, 2) => Event::Lhz { rt: r, address },
+        (false, 4) => Event::Lwz { rt: r, address },
+        (false, _) => Event::Ld { rt: r, index },
+        (true, 1) => Event::Stb { ra: r, address },
+        (true, 2) => Event::Sth { ra: r, address },
+        (true, 4) => Event::Stw { ra: r, address },
+        (true, _) => Event::Std { ra: r, index },
     }
 }
 
@@ -110,7 +124,7 @@ pub fn damaged(rng: &mut Rng, m: &Machine, len: usize) -> raw::Event {
     let small = rng.pick([1, 2, 3, 4, 16, 32, 128, 255, byte]);
     for _ in 0..rng.pick([1, 1, 2]) {
         match rng.below(8) {
-            0 => e.kind = rng.pick([0, 18, 19, 20, 25, 26, 27, 255, byte]),
+            0 => e.kind = rng.pick([0, 18, 19, 20, 21, 22, 23, 24, 25, 26, 27, 28, 255, byte]),
             1 => e.thread = rng.pick([4, 255, byte]),
             2 => e.x = small,
             3 => e.ra = small,
@@ -154,10 +168,14 @@ fn scene(rng: &mut Rng, m: &Machine, len: usize) -> Vec<(u8, Event)> {
     if rng.one_in(6) {
         return rot_off(rng, &stage);
     }
+    // Stores of four widths by which two and three others fail, in each state.
+    if count > 2 && rng.one_in(2) {
+        return shared(rng, &stage, count as u8);
+    }
     let r = rng.one_in(4);
     let begin = Event::Tbegin { r };
-    match rng.below(11) {
-        0 => full_log(&stage, begin),
+    match rng.below(13) {
+        0 => full_log(rng, &stage, begin),
         1 => full_footprint(rng, &stage, begin),
         2 => too_deep(m, me, begin),
         3 => nested(rng, me, begin),
@@ -166,6 +184,7 @@ fn scene(rng: &mut Rng, m: &Machine, len: usize) -> Vec<(u8, Event)> {
         6 => shared(rng, &stage, count as u8),
         7 => interrupted(rng, &stage, begin),
         8..=9 => invalidated(rng, &stage, begin),
+        10..=11 => merged(rng, &stage, begin),
         _ => overwritten(rng, &stage, begin),
     }
 }
@@ -175,15 +194,55 @@ fn alone(me: usize, events: impl IntoIterator<Item = Event>) -> Vec<(u8, Event)>
     events.into_iter().map(|e| (me as u8, e)).collect()
 }
 
-/// 65 doublewords of five lines: one more than the log takes. A commit then
-/// writes all that were kept.
-fn full_log(stage: &Stage, begin: Event) -> Vec<(u8, Event)> {
-    let stores = (0..65).map(|n| Event::Std {
-        ra: (n % 32) as u8,
-        index: stage.index(n / LINE, n),
-    });
-    let events = std::iter::once(begin).chain(stores);
+/// 65 doublewords of five lines: one more than the log takes, whole or in part.
+/// Before the last, one that has a place is stored to once more.
+fn full_log(rng: &mut Rng, stage: &Stage, begin: Event) -> Vec<(u8, Event)> {
+    let narrow = rng.flag();
+    let mut store = |n: usize| {
+        let (ra, index) = ((n % 32) as u8, stage.index(n / LINE, n));
+        match narrow {
+            true => access(rng, true, ra, index),
+            false => Event::Std { ra, index },
+        }
+    };
+    let mut events = vec![begin];
+    events.extend((0..64).map(&mut store));
+    events.extend([store(17), store(64)]);
     alone(stage.me.into(), events)
+}
+
+/// One or two doublewords stored to and loaded in all widths, in T, some in S too
+/// while the transaction lives, then mostly committed, and loaded by another.
+fn merged(rng: &mut Rng, stage: &Stage, begin: Event) -> Vec<(u8, Event)> {
+    let within = rng.below(LINE);
+    let indices = [stage.index(0, within), stage.index(0, within + 1)];
+    let two = rng.one_in(3);
+    let mut events = vec![begin];
+    for n in 0..4 + rng.below(8) {
+        let index = indices[usize::from(two && rng.flag())];
+        let store = rng.below(5) < 3;
+        let r = (1 + n % 30) as u8;
+        events.push(access(rng, store, r, index));
+    }
+    if rng.flag() {
+        events.push(Event::Tsr { l: false });
+        for _ in 0..1 + rng.below(4) {
+            events.push(access(rng, false, 6, indices[0]));
+        }
+        if rng.one_in(3) {
+            events.push(access(rng, true, 7, indices[0]));
+        }
+        events.push(Event::Tsr { l: true });
+    }
+    events.push(match rng.one_in(6) {
+        true => Event::Tabort { ra: 0 },
+        false => Event::Tend { a: true },
+    });
+    let mut scene = alone(stage.me.into(), events);
+    for index in indices {
+        scene.push((stage.other, Event::Ld { rt: 6, index }));
+    }
+    scene
 }
 
 /// 33 lines, one more than the footprint takes, read or written.
@@ -191,11 +250,8 @@ fn full_footprint(rng: &mut Rng, stage: &Stage, begin: Event) -> Vec<(u8, Event)
     let accesses: Vec<Event> = (0..33)
         .map(|n| {
             let index = stage.index(n, rng.below(LINE));
-            if rng.flag() {
-                Event::Ld { rt: 5, index }
-            } else {
-                Event::Std { ra: 5, index }
-            }
+            let store = rng.flag();
+            access(rng, store, 5, index)
         })
         .collect();
     alone(stage.me.into(), std::iter::once(begin).chain(accesses))
@@ -305,7 +361,8 @@ fn shared(rng: &mut Rng, stage: &Stage, count: u8) -> Vec<(u8, Event)> {
         Event::Tsr { l: true },
         Event::Tbegin { r: false },
     ];
-    let load = Event::Ld { rt: 6, index };
+    let load = access(rng, false, 6, index);
+    let store = access(rng, true, 5, index);
     let (suspend, abort) = (Event::Tsr { l: false }, Event::Tabort { ra: 0 });
     let mut mine = match rng.below(4) {
         0 => Vec::from_iter(tlbie.then_some(Event::Host { pr, tm })),
@@ -319,7 +376,7 @@ fn shared(rng: &mut Rng, stage: &Stage, count: u8) -> Vec<(u8, Event)> {
         true => Event::Tlbie {
             page: page_of(index),
         },
-        false => Event::Std { ra: 5, index },
+        false => store,
     });
     let others = (0..count).filter(|&thread| thread != stage.me);
     let others = others.flat_map(|thread| {

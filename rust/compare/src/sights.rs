@@ -2,9 +2,10 @@
 //! answer. Each is told from the machine before the event, some from a
 //! transaction's past too, and counts if the event was done.
 
-use model::machine::{LINE, LOG, MAX_FOOTPRINT, MAX_LEVEL, PAGE};
-use model::{Event, Machine, Msr, State, Thread};
+use model::machine::{ALL_BYTES, LINE, LOG, MAX_FOOTPRINT, MAX_LEVEL, PAGE};
+use model::{Entry, Event, Machine, Msr, State, Thread};
 
+use crate::accesses::Access;
 use crate::past::Past;
 
 /// An event before it is done.
@@ -22,7 +23,7 @@ pub struct View<'a> {
 type Sight = (u8, &'static str, fn(&View) -> bool);
 
 /// How many sights there are.
-pub const SIGHTS: usize = 108;
+pub const SIGHTS: usize = 142;
 
 /// All of them.
 #[rustfmt::skip]
@@ -135,20 +136,67 @@ pub const ALL: [Sight; SIGHTS] = [
     (26, "tlbie of a page that ends past the memory", |v| v.invalidates() && (v.first() + PAGE) * LINE > v.len),
     (26, "tlbie fails one by a page that ends past the memory", |v| v.invalidates() && (v.first() + PAGE) * LINE > v.len && v.met().count() > 0),
     (26, "tlbie at 2^64 - 4", |v| v.invalidates() && v.thread.nia == !3),
+    (2, "tend. commits a place stored in part", |v| v.commits() && v.used().iter().any(|e| e.marks != ALL_BYTES)),
+    (2, "tend. commits stored bytes with others between", |v| v.commits() && v.used().iter().any(|e| has_gap(e.marks))),
+    (3, "tabort. drops a place stored in part", |v| v.used().iter().any(|e| e.marks != ALL_BYTES)),
+    (16, "interrupt of a log with a place stored in part", |v| v.state(State::T) && v.used().iter().any(|e| e.marks != ALL_BYTES)),
+    (20, "lbz overflows the footprint", |v| v.overflows_lines()),
+    (20, "lbz in a ROT past a full footprint", |v| v.state(State::T) && v.thread.rot() && !v.has_line() && v.thread.footprint() == MAX_FOOTPRINT),
+    (20, "lbz in a ROT of its own log", |v| v.state(State::T) && v.thread.rot() && v.logged()),
+    (20, "lbz of the last bytes of memory", |v| v.ends_memory()),
+    (21, "lhz overflows the footprint", |v| v.overflows_lines()),
+    (21, "lhz in a ROT past a full footprint", |v| v.state(State::T) && v.thread.rot() && !v.has_line() && v.thread.footprint() == MAX_FOOTPRINT),
+    (21, "lhz in a ROT of its own log", |v| v.state(State::T) && v.thread.rot() && v.logged()),
+    (21, "lhz of the last bytes of memory", |v| v.ends_memory()),
+    (22, "lwz overflows the footprint", |v| v.overflows_lines()),
+    (22, "lwz in a ROT past a full footprint", |v| v.state(State::T) && v.thread.rot() && !v.has_line() && v.thread.footprint() == MAX_FOOTPRINT),
+    (22, "lwz in a ROT of its own log", |v| v.state(State::T) && v.thread.rot() && v.logged()),
+    (22, "lwz of the last bytes of memory", |v| v.ends_memory()),
+    (23, "stb overflows the footprint", |v| v.overflows_lines()),
+    (23, "stb overflows the log alone", |v| v.overflows_log() && !v.overflows_lines()),
+    (23, "stb to a place of a full log", |v| v.state(State::T) && v.logged() && v.thread.count == LOG),
+    (23, "stb makes a place whole", |v| v.state(State::T) && v.makes_whole()),
+    (23, "stb in S to a doubleword of its own log", |v| v.state(State::S) && v.logged()),
+    (23, "stb of the last bytes of memory", |v| v.ends_memory()),
+    (24, "sth overflows the footprint", |v| v.overflows_lines()),
+    (24, "sth overflows the log alone", |v| v.overflows_log() && !v.overflows_lines()),
+    (24, "sth to a place of a full log", |v| v.state(State::T) && v.logged() && v.thread.count == LOG),
+    (24, "sth makes a place whole", |v| v.state(State::T) && v.makes_whole()),
+    (24, "sth in S to a doubleword of its own log", |v| v.state(State::S) && v.logged()),
+    (24, "sth of the last bytes of memory", |v| v.ends_memory()),
+    (25, "stw overflows the footprint", |v| v.overflows_lines()),
+    (25, "stw overflows the log alone", |v| v.overflows_log() && !v.overflows_lines()),
+    (25, "stw to a place of a full log", |v| v.state(State::T) && v.logged() && v.thread.count == LOG),
+    (25, "stw makes a place whole", |v| v.state(State::T) && v.makes_whole()),
+    (25, "stw in S to a doubleword of its own log", |v| v.state(State::S) && v.logged()),
+    (25, "stw of the last bytes of memory", |v| v.ends_memory()),
 ];
 
 /// The bits of SRR1 by which rfid asks.
 const ASKING: u64 = 0x7_0000_4000;
 
-const _: () = assert!(SIGHTS <= 128, "one bit each");
+/// The sights of one event, by their places in [`ALL`].
+#[derive(Clone, PartialEq, Eq, Default, Debug)]
+pub struct Seen([u128; SIGHTS.div_ceil(128)]);
 
-/// The sights of this event on a machine with a memory of this length, one bit
-/// each.
-pub fn seen(lent: (&Machine, usize), past: &Past, thread: u8, event: Event) -> u128 {
+impl Seen {
+    /// Whether this one is among them.
+    pub fn has(&self, sight: usize) -> bool {
+        self.0[sight / 128] >> (sight % 128) & 1 != 0
+    }
+
+    fn add(&mut self, sight: usize) {
+        self.0[sight / 128] |= 1 << (sight % 128);
+    }
+}
+
+/// The sights of this event on a machine with a memory of this length.
+pub fn seen(lent: (&Machine, usize), past: &Past, thread: u8, event: Event) -> Seen {
     let (machine, len) = lent;
     let me = usize::from(thread);
+    let mut seen = Seen::default();
     if me >= machine.count.min(machine.threads.len()) {
-        return 0;
+        return seen;
     }
     let thread = &machine.threads[me];
     let view = View {
@@ -160,13 +208,18 @@ pub fn seen(lent: (&Machine, usize), past: &Past, thread: u8, event: Event) -> u
         event,
     };
     let kind = event.kind();
-    let mut bits = 0;
-    for (bit, (of, _, is)) in ALL.iter().enumerate() {
+    for (sight, (of, _, is)) in ALL.iter().enumerate() {
         if *of == kind && is(&view) {
-            bits |= 1 << bit;
+            seen.add(sight);
         }
     }
-    bits
+    seen
+}
+
+/// Whether a byte that was not stored stands between two that were.
+fn has_gap(marks: u8) -> bool {
+    let run = marks >> marks.trailing_zeros().min(7);
+    run & run.wrapping_add(1) != 0
 }
 
 /// Whether the line is in one of the thread's sets.
@@ -248,15 +301,37 @@ impl View<'_> {
     }
 
     /// The doubleword of a load or store.
-    fn index(&self) -> u32 {
-        match self.event {
-            Event::Ld { index, .. } | Event::Std { index, .. } => index,
-            _ => 0,
-        }
+    fn index(&self) -> usize {
+        Access::of(self.event).map_or(0, Access::index)
     }
 
     fn line(&self) -> usize {
-        self.index() as usize / LINE
+        self.index() / LINE
+    }
+
+    fn is_store(&self) -> bool {
+        Access::of(self.event).is_some_and(|access| access.store)
+    }
+
+    /// The places of the thread's own log.
+    fn used(&self) -> &[Entry] {
+        &self.thread.log[..self.thread.count.min(LOG)]
+    }
+
+    /// Whether the access has the memory's last byte.
+    fn ends_memory(&self) -> bool {
+        let end = 8 * self.len as u64;
+        Access::of(self.event).is_some_and(|access| access.address + access.width == end)
+    }
+
+    /// Whether the stored bytes are all that were missing in a place.
+    fn makes_whole(&self) -> bool {
+        let stored = Access::of(self.event).map_or(0, Access::marks);
+        let place = self
+            .used()
+            .iter()
+            .find(|e| e.index as usize == self.index());
+        place.is_some_and(|e| e.marks != ALL_BYTES && e.marks | stored == ALL_BYTES)
     }
 
     fn has_line(&self) -> bool {
@@ -265,15 +340,14 @@ impl View<'_> {
 
     /// Whether the doubleword is in the thread's own log.
     fn logged(&self) -> bool {
-        let used = &self.thread.log[..self.thread.count.min(LOG)];
-        used.iter().any(|e| e.index == self.index())
+        let mut used = self.used().iter();
+        used.any(|e| e.index as usize == self.index())
     }
 
     /// Rule A1, for the footprint.
     fn overflows_lines(&self) -> bool {
-        let load = matches!(self.event, Event::Ld { .. });
         self.state(State::T)
-            && !(load && self.thread.rot())
+            && (self.is_store() || !self.thread.rot())
             && !self.has_line()
             && self.thread.footprint() == MAX_FOOTPRINT
     }
@@ -285,7 +359,7 @@ impl View<'_> {
 
     /// Whether this other thread has the line so that the access fails it.
     fn is_victim(&self, n: usize, t: &Thread) -> bool {
-        let store = matches!(self.event, Event::Std { .. });
+        let store = self.is_store();
         let line = self.line();
         n != self.me && t.is_live() && (t.writes.contains(line) || store && t.reads.contains(line))
     }
@@ -348,7 +422,7 @@ impl View<'_> {
         if self.state(State::T) != in_t || self.overflows_lines() {
             return false;
         }
-        if matches!(self.event, Event::Std { .. }) && self.overflows_log() {
+        if self.is_store() && self.overflows_log() {
             return false;
         }
         let mut threads = self.machine.threads.iter().enumerate();

@@ -189,16 +189,17 @@ fn wrong_pieces_are_found_and_few_are_left() {
     let text = in_pieces(&LooksAhead);
     assert!(text.contains("model Fed { answer: 0"), "{text}");
     assert!(text.contains("proved Fed { answer: 7"), "{text}");
-    assert_eq!(pieces_left(&text), 1, "{text}");
+    // Each of the first three ends within a record, which the next one finishes.
+    assert_eq!(pieces_left(&text), 4, "{text}");
     let text = in_pieces(&LosesHeld);
     assert!(text.contains("held: model 15, proved 14"), "{text}");
     assert_eq!(pieces_left(&text), 1, "{text}");
     let text = in_pieces(&CountsStop);
     assert!(text.contains("feed, count: model "), "{text}");
     assert_eq!(pieces_left(&text), 1, "{text}");
-    // One that stops it, and one more.
+    // Two that make the record which stops it, and one more.
     let text = in_pieces(&GoesOn);
-    assert_eq!(pieces_left(&text), 2, "{text}");
+    assert_eq!(pieces_left(&text), 3, "{text}");
     let text = in_pieces(&HoldsBehind);
     assert!(text.contains("feed, held: model 0, proved "), "{text}");
     let text = in_pieces(&ReadsThePiece);

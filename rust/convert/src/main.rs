@@ -154,11 +154,14 @@ mod tests {
     /// A good record, of a kind that edition two has not.
     #[test]
     fn a_later_kind() {
-        let mut tape = Tape::new();
-        tape.push(0, Event::Rfid);
-        let refused = tape.convert(Edition::Three).expect_err("rfid");
-        let words = "record 0: 8, a record's kind (kind 18, not 1 to 17)";
-        assert_eq!(told(&tape, refused), words);
+        let word = Event::Lwz { rt: 3, address: 4 };
+        for (event, kind) in [(Event::Rfid, 18), (word, 22)] {
+            let mut tape = Tape::new();
+            tape.push(0, event);
+            let refused = tape.convert(Edition::Three).expect_err("a later kind");
+            let words = format!("record 0: 8, a record's kind (kind {kind}, not 1 to 17)");
+            assert_eq!(told(&tape, refused), words);
+        }
     }
 
     #[test]

@@ -21,7 +21,7 @@ pub const HOST_IN_T: u8 = 5;
 pub const RAGGED: u8 = 6;
 /// A record's first byte is wrong.
 pub const MARK: u8 = 7;
-/// A record's kind is neither 1 to 19 nor 26.
+/// A record's kind is not 1 to 26.
 pub const KIND: u8 = 8;
 /// A field that must be 0 is not, or flags too big.
 pub const FIELD: u8 = 9;

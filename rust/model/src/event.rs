@@ -1,4 +1,4 @@
-//! Rules E1 to E19 and E26: a case for each kind.
+//! Rules E1 to E26: a case for each kind.
 
 /// One event. Operands take any value of their width; what is out of range is
 /// refused when the event is done.
@@ -67,13 +67,37 @@ pub enum Event {
         tm: bool,
         pr: bool,
     },
+    Lbz {
+        rt: u8,
+        address: u32,
+    },
+    Lhz {
+        rt: u8,
+        address: u32,
+    },
+    Lwz {
+        rt: u8,
+        address: u32,
+    },
+    Stb {
+        ra: u8,
+        address: u32,
+    },
+    Sth {
+        ra: u8,
+        address: u32,
+    },
+    Stw {
+        ra: u8,
+        address: u32,
+    },
     Tlbie {
         page: u32,
     },
 }
 
 impl Event {
-    /// The number of the event in rules E1 to E19 and E26.
+    /// The number of the event in rules E1 to E26.
     #[inline]
     pub fn kind(&self) -> u8 {
         match self {
@@ -96,6 +120,12 @@ impl Event {
             Event::Host { .. } => 17,
             Event::Rfid => 18,
             Event::Mtmsrd { .. } => 19,
+            Event::Lbz { .. } => 20,
+            Event::Lhz { .. } => 21,
+            Event::Lwz { .. } => 22,
+            Event::Stb { .. } => 23,
+            Event::Sth { .. } => 24,
+            Event::Stw { .. } => 25,
             Event::Tlbie { .. } => 26,
         }
     }

@@ -4,7 +4,7 @@
 //! Comments name the rules of docs/RULES.md that a piece of code follows.
 //!
 //! - [`machine`]: the state and what makes it valid.
-//! - [`event`]: the twenty events.
+//! - [`event`]: the twenty-six events.
 //! - [`step`](mod@step): doing one event.
 //! - [`tape`]: reading and writing records.
 //! - [`edition_two`]: the same for records of edition two.

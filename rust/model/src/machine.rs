@@ -1,4 +1,4 @@
-//! Rules M1 to M16, the state, and V1 to V14, what makes it valid.
+//! Rules M1 to M17, the state, and V1 to V15, what makes it valid.
 
 /// Doublewords in a line.
 pub const LINE: usize = 16;
@@ -10,6 +10,8 @@ pub const MAX_MEMORY: usize = 4096;
 pub const THREADS: usize = 4;
 /// Places in a log.
 pub const LOG: usize = 64;
+/// The marks of a doubleword of which every byte was stored (rule M11).
+pub const ALL_BYTES: u8 = 0xFF;
 /// The most lines in a live transaction's footprint.
 pub const MAX_FOOTPRINT: u32 = 32;
 /// The highest level of a transaction (rules V9 and E1): TL has 12 bits and
@@ -100,15 +102,51 @@ impl State {
     }
 }
 
+/// The bits of the marked bytes. The mark of byte k is bit 7 - k from the lowest
+/// (rule M11), and the byte is 7 - k bytes from the lowest (rule M17): each bit of
+/// the marks becomes the byte of its own place.
+#[inline]
+pub const fn mask(marks: u8) -> u64 {
+    const EACH: u64 = 0x0101_0101_0101_0101;
+    // A copy in each byte, of which byte n keeps bit n.
+    let own = (marks as u64).wrapping_mul(EACH) & 0x8040_2010_0804_0201;
+    // 0x7F more sets the highest bit of a byte that is not 0, and no carry leaves
+    // it: a byte is at most 0x80.
+    let highest = (own + 0x7F * EACH) & 0x80 * EACH;
+    (highest >> 7) * 0xFF
+}
+
 /// One place of a log.
 #[derive(Clone, Copy, PartialEq, Eq, Debug)]
 pub struct Entry {
     pub index: u32,
+    /// Which bytes were stored.
+    pub marks: u8,
     pub value: u64,
 }
 
 impl Entry {
-    pub const ZERO: Entry = Entry { index: 0, value: 0 };
+    pub const ZERO: Entry = Entry {
+        index: 0,
+        marks: 0,
+        value: 0,
+    };
+
+    /// A doubleword of memory with the marked bytes of this place over it.
+    #[inline]
+    pub fn over(&self, doubleword: u64) -> u64 {
+        if self.marks == ALL_BYTES {
+            return self.value;
+        }
+        let mask = mask(self.marks);
+        self.value & mask | doubleword & !mask
+    }
+
+    /// Rule V15: some byte was stored, and those that were not are 0.
+    #[inline]
+    fn is_well_marked(&self) -> bool {
+        self.marks != 0 && self.value & !mask(self.marks) == 0
+    }
 }
 
 /// One bit for each of 256 lines, line 0 the lowest bit of word 0.
@@ -260,6 +298,9 @@ impl Thread {
             return false;
         };
         if unused.iter().any(|e| *e != Entry::ZERO) {
+            return false;
+        }
+        if !used.iter().all(Entry::is_well_marked) {
             return false;
         }
         if self.nia & 3 != 0 || self.tfhar & 3 != 0 {

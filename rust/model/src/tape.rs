@@ -7,10 +7,8 @@ use crate::{answer, Event};
 pub const RECORD: usize = 16;
 /// A record's first byte.
 pub const MARK: u8 = 0xE3;
-/// The kinds, in order. 20 to 25 are none.
-pub const KINDS: [u8; 20] = [
-    1, 2, 3, 4, 5, 6, 7, 8, 9, 10, 11, 12, 13, 14, 15, 16, 17, 18, 19, 26,
-];
+/// The last kind; the first is 1.
+pub const LAST_KIND: u8 = 26;
 
 /// The fields of a record, whatever its edition: where each of them stands, and
 /// what stands beside them, is the edition's own.
@@ -27,9 +25,9 @@ pub struct Fields {
 }
 
 /// For each kind, at its own number, the bits of a record that must be 0, the
-/// record taken as a number with its first byte the highest. Of a number that is
-/// no kind they are all of it.
-static MUST_BE_ZERO: [u128; 27] = {
+/// record taken as a number with its first byte the highest. Of 0, which is no
+/// kind, they are all of it.
+static MUST_BE_ZERO: [u128; LAST_KIND as usize + 1] = {
     /// Where a byte of the record may have these bits.
     const fn at(byte: u32, bits: u128) -> u128 {
         bits << (8 * (15 - byte))
@@ -42,7 +40,7 @@ static MUST_BE_ZERO: [u128; 27] = {
     const FOUR_FLAGS: u128 = at(6, 15);
     const INDEX: u128 = at(11, 0xFFFF_FFFF);
     const SI: u128 = at(13, 0xFFFF);
-    let used = [
+    let used: [u128; LAST_KIND as usize] = [
         ONE_FLAG,    // tbegin. R
         ONE_FLAG,    // tend. A
         RA,          // tabort.
@@ -62,15 +60,21 @@ static MUST_BE_ZERO: [u128; 27] = {
         TWO_FLAGS,   // host
         0,           // rfid
         FOUR_FLAGS,  // mtmsrd
+        X | INDEX,   // lbz RT in X, address in INDEX
+        X | INDEX,   // lhz
+        X | INDEX,   // lwz
+        RA | INDEX,  // stb address in INDEX
+        RA | INDEX,  // sth
+        RA | INDEX,  // stw
         INDEX,       // tlbie page in INDEX
     ];
     // First byte, kind and thread are read by themselves.
     let head = at(2, 0xFF_FFFF);
-    let mut table = [u128::MAX; 27];
-    let mut row = 0;
-    while row < KINDS.len() {
-        table[KINDS[row] as usize] = !(head | used[row]);
-        row += 1;
+    let mut table = [u128::MAX; LAST_KIND as usize + 1];
+    let mut kind = 1;
+    while kind < table.len() {
+        table[kind] = !(head | used[kind - 1]);
+        kind += 1;
     }
     table
 };
@@ -98,7 +102,7 @@ pub(crate) fn judge(record: &[u8; RECORD]) -> Result<(), u8> {
     if mark != MARK {
         return Err(answer::MARK);
     }
-    if !matches!(kind, 1..=19 | 26) {
+    if !matches!(kind, 1..=LAST_KIND) {
         return Err(answer::KIND);
     }
     if u128::from_be_bytes(*record) & MUST_BE_ZERO[usize::from(kind)] != 0 {
@@ -169,6 +173,16 @@ impl Fields {
             Event::Mtspr { spr, ra: r } | Event::Mfspr { spr, rt: r } => (f.x, f.ra) = (spr, r),
             Event::Ld { rt, index } => (f.x, f.index) = (rt, index),
             Event::Std { ra, index } => (f.ra, f.index) = (ra, index),
+            Event::Lbz { rt, address }
+            | Event::Lhz { rt, address }
+            | Event::Lwz { rt, address } => {
+                (f.x, f.index) = (rt, address);
+            }
+            Event::Stb { ra, address }
+            | Event::Sth { ra, address }
+            | Event::Stw { ra, address } => {
+                (f.ra, f.index) = (ra, address);
+            }
             Event::Addi { rt, ra, si } => (f.x, f.ra, f.si) = (rt, ra, si),
             Event::Host { pr, tm } => f.flags = u8::from(pr) | u8::from(tm) << 1,
             Event::Mtmsrd { ts, tm, pr } => {
@@ -212,6 +226,21 @@ impl Fields {
                 tm: self.flags & 4 != 0,
                 pr: self.flags & 8 != 0,
             },
+            20 => Event::Lbz {
+                rt: x,
+                address: index,
+            },
+            21 => Event::Lhz {
+                rt: x,
+                address: index,
+            },
+            22 => Event::Lwz {
+                rt: x,
+                address: index,
+            },
+            23 => Event::Stb { ra, address: index },
+            24 => Event::Sth { ra, address: index },
+            25 => Event::Stw { ra, address: index },
             26 => Event::Tlbie { page: index },
             _ => return None,
         })

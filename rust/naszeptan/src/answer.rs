@@ -32,7 +32,8 @@ pub enum Answer {
     /// 3: the event's thread is not below the count; from the writer of
     /// edition two, it is above 3.
     NoThread = 3,
-    /// 4: a used register, BF, TO, SPR or index out of range.
+    /// 4: a used register, BF, TO, SPR, index, address or page out of range, or
+    /// an address that is no multiple of the access's width.
     Operand = 4,
     /// 5: the host event on a Transactional thread.
     HostInT = 5,
@@ -40,7 +41,7 @@ pub enum Answer {
     TapeLength = 6,
     /// 7: a record's first byte is not 0xE3; in edition two, it is above 3.
     BadFirstByte = 7,
-    /// 8: a kind that is not 1 to 19 or 26; in edition two, one above 17 too.
+    /// 8: a kind that is not 1 to 26; in edition two, one above 17 too.
     NoKind = 8,
     /// 9: an unused field or a fixed byte is not 0, or flags are too big.
     Field = 9,
@@ -131,7 +132,7 @@ impl fmt::Display for Answer {
             Answer::HostInT => "the host cannot set PR and TM in Transactional state",
             Answer::TapeLength => "the length is not a multiple of 16 bytes",
             Answer::BadFirstByte => "the first byte is not 0xE3, or above 3 in edition two",
-            Answer::NoKind => "the kind is not 1 to 19 or 26, or above 17 in edition two",
+            Answer::NoKind => "the kind is not 1 to 26, or above 17 in edition two",
             Answer::Field => "an unused field or a fixed byte is not 0, or flags are too big",
             Answer::ShortBuffer => "the buffer is too short",
             Answer::FacilityOff => "the facility is off",

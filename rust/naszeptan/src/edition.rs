@@ -6,7 +6,7 @@ use std::fmt;
 use crate::Answer;
 
 /// An edition of the tape: a layout of records, each of 16 bytes (docs/RULES.md,
-/// T8). Both have the same events.
+/// T8). Both have the events of kinds 1 to 17, and edition three the others too.
 ///
 /// Nothing tells the edition from a tape's bytes, and a [`Tape`](crate::Tape)
 /// does not know its own: who reads, writes or converts names it. A tape that

@@ -28,12 +28,12 @@ use crate::Answer;
 /// // A record that is none keeps the whole tape from being run.
 /// tape.push(0, Event::Disallowed);
 /// let mut bytes = tape.into_bytes();
-/// bytes[33] = 20;
+/// bytes[33] = 27;
 /// let ended = machine.run(&mut memory, &bytes);
 /// assert_eq!(ended.bad_record(), Some((2, Answer::NoKind)));
 /// assert_eq!(
 ///     ended.to_string(),
-///     "record 2: 8, the kind is not 1 to 19 or 26, or above 17 in edition two"
+///     "record 2: 8, the kind is not 1 to 26, or above 17 in edition two"
 /// );
 /// ```
 #[derive(Clone, Copy, Debug, PartialEq, Eq, Hash)]

@@ -1,4 +1,4 @@
-//! The twenty events.
+//! The twenty-six events.
 
 use std::fmt;
 
@@ -13,9 +13,10 @@ use crate::{Answer, Edition, Kind};
 ///
 /// An event is displayed as an assembler would have it. A register is `r` and
 /// its number, a CR field `cr` and its number; flags are named; TO, SPR and
-/// the index of a doubleword or a page are plain numbers, and SI is signed. Where RA = 0
-/// means the value 0 and not register 0 (tabort., treclaim. and addi) it is
-/// `0`. No two events look alike.
+/// the index of a doubleword are plain numbers, a byte address stands behind
+/// `address` and a page behind `page`; SI is signed. Where RA = 0 means the
+/// value 0 and not register 0 (tabort., treclaim. and addi) it is `0`. No two
+/// events look alike.
 ///
 /// ```
 /// use naszeptan::{Event, Ts};
@@ -28,6 +29,8 @@ use crate::{Answer, Edition, Kind};
 ///     Event::Mtmsrd { ts: Ts::T, tm: true, pr: false }.to_string(),
 ///     "mtmsrd TS=10, TM=1, PR=0"
 /// );
+/// assert_eq!(Event::Lwz { rt: 5, address: 12 }.to_string(), "lwz r5, address 12");
+/// assert_eq!(Event::Stb { ra: 3, address: 9 }.to_string(), "stb r3, address 9");
 /// assert_eq!(Event::Tlbie { page: 3 }.to_string(), "tlbie page 3");
 /// assert_eq!(Event::Std { ra: 3, index: 17 }.kind(), 13);
 /// ```
@@ -150,6 +153,70 @@ pub enum Event {
         /// PR.
         pr: bool,
     },
+    /// 20: loads a byte; the register's upper seven bytes become 0.
+    ///
+    /// A byte address names byte `address % 8` of doubleword `address / 8`, and
+    /// byte 0 of a doubleword is its highest (docs/RULES.md, M17).
+    ///
+    /// ```
+    /// use naszeptan::{Answer, Event, Machine};
+    ///
+    /// let (mut machine, mut memory) = (Machine::fresh(), [0; 16]);
+    /// memory[1] = 0x1122_3344_5566_7788;
+    /// for (event, value) in [
+    ///     (Event::Lbz { rt: 3, address: 8 }, 0x11),
+    ///     (Event::Lhz { rt: 3, address: 10 }, 0x3344),
+    ///     (Event::Lwz { rt: 3, address: 12 }, 0x5566_7788),
+    /// ] {
+    ///     assert_eq!(machine.step(&mut memory, 0, event), Answer::Done);
+    ///     assert_eq!(machine.threads[0].live.gpr[3], value);
+    /// }
+    /// // Not a multiple of the width.
+    /// let wrong = Event::Lwz { rt: 3, address: 10 };
+    /// assert_eq!(machine.step(&mut memory, 0, wrong), Answer::Operand);
+    /// ```
+    Lbz {
+        /// RT.
+        rt: u8,
+        /// The byte's address.
+        address: u32,
+    },
+    /// 21: loads two bytes; the register's upper six bytes become 0.
+    Lhz {
+        /// RT.
+        rt: u8,
+        /// The byte address, a multiple of 2.
+        address: u32,
+    },
+    /// 22: loads four bytes; the register's upper four bytes become 0.
+    Lwz {
+        /// RT.
+        rt: u8,
+        /// The byte address, a multiple of 4.
+        address: u32,
+    },
+    /// 23: stores a register's lowest byte. The doubleword's other bytes stay,
+    /// at a commit too.
+    Stb {
+        /// RA.
+        ra: u8,
+        /// The byte's address.
+        address: u32,
+    },
+    /// 24: stores a register's lowest two bytes, as [`Event::Stb`] does.
+    Sth {
+        /// RA.
+        ra: u8,
+        /// The byte address, a multiple of 2.
+        address: u32,
+    },
+    /// 25: stores a register's lowest four bytes, as [`Event::Stb`] does.
+    Stw {
+        /// RA.
+        ra: u8,
+        /// The byte address, a multiple of 4.
+        address: u32,
+    },
     /// 26: invalidates the translation of a page, 32 lines; privileged. Outside
     /// T each live transaction with a line of the page in its sets fails, the
     /// thread's own suspended one too; in T it is disallowed.
@@ -189,7 +256,7 @@ impl Ts {
 }
 
 impl Event {
-    /// The number of the event's kind, 1 to 19 or 26. [`Kind::of`] gives its row.
+    /// The number of the event's kind, 1 to 26. [`Kind::of`] gives its row.
     pub const fn kind(self) -> u8 {
         self.to_raw(0).kind
     }
@@ -253,6 +320,12 @@ impl Event {
                 let flags = ts as u8 + 4 * tm as u8 + 8 * pr as u8;
                 (19, 0, 0, 0, flags, 0, 0)
             }
+            Event::Lbz { rt, address } => (20, rt, 0, 0, 0, address, 0),
+            Event::Lhz { rt, address } => (21, rt, 0, 0, 0, address, 0),
+            Event::Lwz { rt, address } => (22, rt, 0, 0, 0, address, 0),
+            Event::Stb { ra, address } => (23, 0, ra, 0, 0, address, 0),
+            Event::Sth { ra, address } => (24, 0, ra, 0, 0, address, 0),
+            Event::Stw { ra, address } => (25, 0, ra, 0, 0, address, 0),
             Event::Tlbie { page } => (26, 0, 0, 0, 0, page, 0),
         };
         raw::Event {
@@ -311,6 +384,21 @@ impl Event {
                 tm: flags & 4 != 0,
                 pr: flags & 8 != 0,
             },
+            20 => Event::Lbz {
+                rt: x,
+                address: index,
+            },
+            21 => Event::Lhz {
+                rt: x,
+                address: index,
+            },
+            22 => Event::Lwz {
+                rt: x,
+                address: index,
+            },
+            23 => Event::Stb { ra, address: index },
+            24 => Event::Sth { ra, address: index },
+            25 => Event::Stw { ra, address: index },
             26 => Event::Tlbie { page: index },
             _ => return Err(Answer::NoKind),
         };

@@ -4,11 +4,10 @@ use std::fmt;
 use std::mem::take;
 
 use crate::raw;
-use Operand::{Bf, Flag, Index, Page, Ra, RaOrZero, Rb, Rt, RtInRa, Si, Spr, To, Ts};
+use Operand::{Address, Bf, Flag, Index, Page, Ra, RaOrZero, Rb, Rt, RtInRa, Si, Spr, To, Ts};
 
 /// What all events of one kind have in common: a row of the table in section E
-/// of docs/RULES.md. [`Kind::of`] finds the row of a number: 20 to 25 are no
-/// kinds, so that the row's place in [`KINDS`] does not tell it.
+/// of docs/RULES.md. [`Kind::of`] finds the row of a number.
 ///
 /// ```
 /// use naszeptan::{Kind, Operand, KINDS};
@@ -17,9 +16,11 @@ use Operand::{Bf, Flag, Index, Page, Ra, RaOrZero, Rb, Rt, RtInRa, Si, Spr, To, 
 /// assert_eq!(std.name, "std");
 /// assert_eq!(std.operands, [Operand::Ra, Operand::Index]);
 /// assert!(!std.tm && !std.privileged);
+/// let lhz = Kind::of(21).unwrap();
+/// assert_eq!(lhz.operands, [Operand::Rt, Operand::Address(2)]);
 /// assert_eq!(Kind::of(26).unwrap().name, "tlbie");
-/// assert_eq!((Kind::of(0), Kind::of(20)), (None, None));
-/// assert_eq!(KINDS.len(), 20);
+/// assert_eq!((Kind::of(0), Kind::of(27)), (None, None));
+/// assert_eq!(KINDS.len(), 26);
 /// ```
 #[derive(Clone, Copy, Debug, PartialEq, Eq, Hash)]
 pub struct Kind {
@@ -66,6 +67,10 @@ pub enum Operand {
     Rb,
     /// The index of a doubleword.
     Index,
+    /// The byte address of an access of so many bytes, in the index. It is in
+    /// range where it is a multiple of them and below 8 times the memory's
+    /// length.
+    Address(u8),
     /// The number of a page, in the index. It is in range where the page's first
     /// doubleword, 512 times the number, is in memory.
     Page,
@@ -73,8 +78,8 @@ pub enum Operand {
     Si,
 }
 
-/// The row of each kind, by rising number. There is none for 20 to 25.
-pub const KINDS: [Kind; 20] = [
+/// The row of each kind, by rising number.
+pub const KINDS: [Kind; 26] = [
     tm(1, "tbegin.", &[Flag("R", 1)]),
     tm(2, "tend.", &[Flag("A", 1)]),
     tm(3, "tabort.", &[RaOrZero]),
@@ -95,6 +100,12 @@ pub const KINDS: [Kind; 20] = [
     other(17, "host", &[Flag("PR", 1), Flag("TM", 2)]),
     privileged(other(18, "rfid", &[])),
     privileged(other(19, "mtmsrd", &[Ts, Flag("TM", 4), Flag("PR", 8)])),
+    other(20, "lbz", &[Rt, Address(1)]),
+    other(21, "lhz", &[Rt, Address(2)]),
+    other(22, "lwz", &[Rt, Address(4)]),
+    other(23, "stb", &[Ra, Address(1)]),
+    other(24, "sth", &[Ra, Address(2)]),
+    other(25, "stw", &[Ra, Address(4)]),
     privileged(other(26, "tlbie", &[Page])),
 ];
 
@@ -156,6 +167,7 @@ impl Kind {
                 RaOrZero if value == 0 => f.write_str("0"),
                 Rt | RtInRa | Ra | RaOrZero | Rb => write!(f, "r{value}"),
                 To | Spr | Index => write!(f, "{value}"),
+                Address(_) => write!(f, "address {value}"),
                 Page => write!(f, "page {value}"),
                 Si => write!(f, "{}", value as i16),
             }?;
@@ -186,7 +198,7 @@ impl Operand {
             To | Spr | Bf | Rt => take(&mut fields.x).into(),
             RtInRa | Ra | RaOrZero => take(&mut fields.ra).into(),
             Rb => take(&mut fields.rb).into(),
-            Index | Page => take(&mut fields.index),
+            Index | Address(_) | Page => take(&mut fields.index),
             Si => take(&mut fields.si).into(),
         }
     }

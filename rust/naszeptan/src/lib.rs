@@ -106,7 +106,8 @@ pub use machine::{Control, Done, Machine, State, Thread};
 #[doc(inline)]
 pub use raw::{version, Entry, Lines as LineSet, Registers, Transaction};
 pub use raw::{
-    FIRST_BYTE, GPRS, HELD, LEVELS, LINE, MEMORY, PAGE, PLACES, RECORD_SIZE, THREADS, VERSION,
+    ALL_MARKS, FIRST_BYTE, GPRS, HELD, LEVELS, LINE, MEMORY, PAGE, PLACES, RECORD_SIZE, THREADS,
+    VERSION,
 };
 pub use raw::{SPR_SRR0, SPR_SRR1, SPR_TEXASR, SPR_TEXASRU, SPR_TFHAR, SPR_TFIAR};
 pub use session::{Answers, Session, PIECE};

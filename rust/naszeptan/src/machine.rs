@@ -62,7 +62,7 @@ pub struct Thread {
 /// A machine of one to four threads. Its memory is lent to each call.
 ///
 /// All fields may be read and set. A machine that is not valid (docs/RULES.md,
-/// V1 to V14) can so be made; each call then refuses it and changes nothing.
+/// V1 to V15) can so be made; each call then refuses it and changes nothing.
 ///
 /// ```
 /// use naszeptan::{Answer, Event, Machine, State};

@@ -40,6 +40,8 @@ pub const PAGE: usize = 32;
 pub const MEMORY: usize = 4096;
 /// Places of a transaction's log.
 pub const PLACES: usize = 64;
+/// The marks of a log place all of whose eight bytes were stored.
+pub const ALL_MARKS: u8 = 0xFF;
 /// The highest level of a transaction, and the most that TEXASR's TL holds.
 pub const LEVELS: u16 = 4095;
 /// Bytes of a tape record.
@@ -65,7 +67,7 @@ pub const SPR_TEXASRU: u8 = 131;
 /// The version of the rules that this crate was written for: the model's
 /// version in the upper 16 bits, the change requests that have landed in the
 /// lower. [`version`] gives the archive's.
-pub const VERSION: u32 = 0x0004_0009;
+pub const VERSION: u32 = 0x0004_000A;
 
 /// The registers that a checkpoint keeps.
 #[repr(C)]
@@ -96,13 +98,27 @@ pub struct Lines {
     pub words: [u64; LINE_WORDS],
 }
 
-/// One logged store.
+/// A place of the log: a doubleword that was stored to, and which of its bytes.
+///
+/// ```
+/// use naszeptan::{Entry, ALL_MARKS};
+///
+/// let word = Entry { index: 2, marks: 0x0F, value: 7 };
+/// assert!(word.is_stored(4) && !word.is_stored(3));
+/// assert_eq!(word.over(0xAAAA_AAAA_BBBB_BBBB), 0xAAAA_AAAA_0000_0007);
+/// let whole = Entry { marks: ALL_MARKS, ..word };
+/// assert_eq!(whole.over(0xAAAA_AAAA_BBBB_BBBB), 7);
+/// ```
 #[repr(C)]
 #[derive(Clone, Copy, Debug, Default, PartialEq, Eq, Hash)]
 pub struct Entry {
     /// The doubleword's index in memory.
     pub index: u32,
-    /// The value that a commit would put there.
+    /// Which of its eight bytes were stored: `0x80 >> k` is the mark of byte k,
+    /// of which 0 is the highest. A used place has some mark.
+    pub marks: u8,
+    /// The stored bytes, where they stand in the doubleword; the others are 0. A
+    /// commit puts the stored ones into memory.
     pub value: u64,
 }
 
@@ -121,8 +137,10 @@ pub struct Entry {
 /// assert!(transaction.reads.contains(1));
 /// assert!(transaction.writes.contains(2));
 /// assert_eq!(transaction.footprint(), 2);
-/// assert_eq!(transaction.logged(33), Some(0));
 /// assert_eq!(transaction.entries().len(), 1);
+/// let place = transaction.logged(33).unwrap();
+/// assert_eq!((place.marks, place.value), (0xFF, 0));
+/// assert_eq!(transaction.logged(34), None);
 /// ```
 #[repr(C)]
 #[derive(Clone, Copy, PartialEq, Eq, Hash)]
@@ -190,8 +208,8 @@ pub struct Machine {
     pub threads: [Thread; THREADS],
 }
 
-/// One event and the thread that executes it. `kind`, 1 to 19 or 26, says what
-/// the other fields mean; a field that its kind does not use must be 0.
+/// One event and the thread that executes it. `kind`, 1 to 26, says what the
+/// other fields mean; a field that its kind does not use must be 0.
 #[repr(C)]
 #[derive(Clone, Copy, Debug, Default, PartialEq, Eq, Hash)]
 pub struct Event {
@@ -207,7 +225,8 @@ pub struct Event {
     pub rb: u8,
     /// R, A or L; for kind 17, PR + 2 * TM; for kind 19, TS + 4 * TM + 8 * PR.
     pub flags: u8,
-    /// The doubleword of a load or store; for kind 26, the page.
+    /// The doubleword of a load or store; for kinds 20 to 25, the byte address;
+    /// for kind 26, the page.
     pub index: u32,
     /// SI, as its 16 bits.
     pub si: u16,

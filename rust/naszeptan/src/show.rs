@@ -120,10 +120,23 @@ fn transaction(transaction: &Transaction) -> Vec<String> {
     }
     let log = shown(transaction);
     if transaction.count != 0 || !log.is_empty() {
-        let places = log.iter().map(|e| format!("{}=0x{:X}", e.index, e.value));
-        parts.push(format!("log of {}: {}", transaction.count, words(places)));
+        let places = words(log.iter().map(place));
+        parts.push(format!("log of {}: {places}", transaction.count));
     }
     parts
+}
+
+/// A place of the log, with its marks where not all eight bytes were stored.
+fn place(entry: &Entry) -> String {
+    let Entry {
+        index,
+        marks,
+        value,
+    } = entry;
+    match entry.is_whole() {
+        true => format!("{index}=0x{value:X}"),
+        false => format!("{index}=0x{value:X} (marks 0x{marks:02X})"),
+    }
 }
 
 /// The log up to its last place that is used or not 0.

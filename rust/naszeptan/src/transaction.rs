@@ -2,7 +2,7 @@
 
 use std::fmt;
 
-use crate::raw::{Entry, Lines, Transaction, PLACES};
+use crate::raw::{Entry, Lines, Transaction, ALL_MARKS, PLACES};
 use crate::show::shown;
 
 impl Lines {
@@ -61,13 +61,45 @@ impl fmt::Debug for Lines {
     }
 }
 
+impl Entry {
+    /// A place that is not used.
+    pub const EMPTY: Entry = Entry {
+        index: 0,
+        marks: 0,
+        value: 0,
+    };
+
+    /// Whether a byte of the doubleword was stored; byte 0 is the highest. There
+    /// is none above 7.
+    pub const fn is_stored(&self, byte: u8) -> bool {
+        byte < 8 && self.marks << byte & 0x80 != 0
+    }
+
+    /// Whether all eight bytes were stored.
+    pub const fn is_whole(&self) -> bool {
+        self.marks == ALL_MARKS
+    }
+
+    /// What a load of the doubleword sees, and a commit leaves of it, where
+    /// memory has this: the stored bytes over memory's.
+    pub fn over(&self, memory: u64) -> u64 {
+        let mut bytes = memory.to_be_bytes();
+        for (byte, stored) in (0..).zip(self.value.to_be_bytes()) {
+            if self.is_stored(byte) {
+                bytes[usize::from(byte)] = stored;
+            }
+        }
+        u64::from_be_bytes(bytes)
+    }
+}
+
 impl Transaction {
     /// Empty sets and an empty log.
     pub const EMPTY: Transaction = Transaction {
         reads: Lines::EMPTY,
         writes: Lines::EMPTY,
         count: 0,
-        log: [Entry { index: 0, value: 0 }; PLACES],
+        log: [Entry::EMPTY; PLACES],
     };
 
     /// How many lines the two sets have together.
@@ -80,10 +112,11 @@ impl Transaction {
         &self.log[..self.count.min(PLACES)]
     }
 
-    /// The logged value of a doubleword, if it has one.
-    pub fn logged(&self, index: u32) -> Option<u64> {
-        let entry = self.entries().iter().find(|e| e.index == index);
-        entry.map(|e| e.value)
+    /// The place of the log that a doubleword has, if it has one. It tells which
+    /// bytes were stored; [`Entry::over`] gives the doubleword as the thread sees
+    /// it.
+    pub fn logged(&self, index: u32) -> Option<&Entry> {
+        self.entries().iter().find(|e| e.index == index)
     }
 }
 

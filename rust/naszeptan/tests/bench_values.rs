@@ -1,7 +1,7 @@
-//! The bench values of docs/RULES.md, K1 to K10 and K14 to K26, through the
+//! The bench values of docs/RULES.md, K1 to K10 and K14 to K36, through the
 //! archive.
 
-use naszeptan::{Answer, Event, Machine, State, Ts, LEVELS, LINE, MEMORY};
+use naszeptan::{Answer, Entry, Event, Machine, State, Ts, LEVELS, LINE, MEMORY};
 
 const BEGIN: Event = Event::Tbegin { r: false };
 const ADDI: Event = Event::Addi {
@@ -329,5 +329,207 @@ fn k26_the_last_page() {
         desk.memory.truncate(len);
         desk.step(0, tlbie(last), Answer::Done);
         desk.step(0, tlbie(last + 1), Answer::Operand);
+    }
+}
+
+const END: Event = Event::Tend { a: false };
+const fn lbz(rt: u8, address: u32) -> Event {
+    Event::Lbz { rt, address }
+}
+const fn lhz(rt: u8, address: u32) -> Event {
+    Event::Lhz { rt, address }
+}
+const fn lwz(rt: u8, address: u32) -> Event {
+    Event::Lwz { rt, address }
+}
+const fn stb(ra: u8, address: u32) -> Event {
+    Event::Stb { ra, address }
+}
+const fn sth(ra: u8, address: u32) -> Event {
+    Event::Sth { ra, address }
+}
+const fn stw(ra: u8, address: u32) -> Event {
+    Event::Stw { ra, address }
+}
+
+impl Desk {
+    /// The fresh machine over this much memory, of zeros.
+    fn over(len: usize) -> Desk {
+        let (machine, memory) = (Machine::fresh(), vec![0; len]);
+        Desk { machine, memory }
+    }
+
+    /// Thread 0's register, which starts with no byte at zero, after a load.
+    fn loads(&mut self, event: Event, rt: usize) -> u64 {
+        self.machine.threads[0].live.gpr[rt] = u64::MAX;
+        self.step(0, event, Answer::Done);
+        self.machine.threads[0].live.gpr[rt]
+    }
+
+    /// Thread 0 stores this value, of its register 3.
+    fn stores(&mut self, value: u64, event: Event) {
+        self.machine.threads[0].live.gpr[3] = value;
+        self.step(0, event, Answer::Done);
+    }
+
+    fn log(&self) -> &[Entry] {
+        self.machine.threads[0].transaction.entries()
+    }
+}
+
+#[test]
+fn k27_stores_of_bytes() {
+    let (mut desk, value) = (Desk::over(MEMORY), 0x1122_3344_5566_7788);
+    for (event, doubleword) in [
+        (stb(3, 8), 0x8800_0000_0000_0000),
+        (sth(3, 10), 0x8800_7788_0000_0000),
+        (stw(3, 12), 0x8800_7788_5566_7788),
+    ] {
+        desk.stores(value, event);
+        assert_eq!(desk.memory[..3], [0, doubleword, 0]);
+    }
+}
+
+#[test]
+fn k28_loads_of_bytes() {
+    let mut desk = Desk::over(MEMORY);
+    desk.memory[1] = 0x1122_3344_5566_7788;
+    for (event, value) in [
+        (lbz(4, 8), 0x11),
+        (lbz(4, 15), 0x88),
+        (lhz(4, 10), 0x3344),
+        (lwz(4, 12), 0x5566_7788),
+    ] {
+        assert_eq!(desk.loads(event, 4), value, "{event}");
+    }
+    assert!(desk.machine.threads[0].transaction.reads.is_empty());
+}
+
+#[test]
+fn k29_marks() {
+    let mut desk = Desk::over(MEMORY);
+    desk.step(0, BEGIN, Answer::Done);
+    for (value, event, marks, logged) in [
+        (1, stw(3, 4), 0x0F, 1),
+        (2, stw(3, 0), 0xFF, 0x0000_0002_0000_0001),
+    ] {
+        desk.stores(value, event);
+        let (index, value) = (0, logged);
+        let place = Entry {
+            index,
+            marks,
+            value,
+        };
+        assert_eq!(desk.log(), [place]);
+        assert_eq!(desk.memory[0], 0);
+    }
+}
+
+#[test]
+fn k30_the_log_over_memory() {
+    let mut desk = Desk::over(MEMORY);
+    desk.memory[2] = 0x1111_1111_1111_1111;
+    desk.step(0, BEGIN, Answer::Done);
+    desk.stores(0xABCD, sth(3, 18));
+    let seen = desk.loads(Event::Ld { rt: 4, index: 2 }, 4);
+    assert_eq!(seen, 0x1111_ABCD_1111_1111);
+    let transaction = &desk.machine.threads[0].transaction;
+    assert_eq!(transaction.logged(2).unwrap().over(desk.memory[2]), seen);
+    for set in [&transaction.reads, &transaction.writes] {
+        assert_eq!(set.iter().collect::<Vec<_>>(), [0]);
+    }
+    assert_eq!(desk.loads(lbz(4, 18), 4), 0xAB);
+    assert_eq!(desk.loads(lwz(4, 16), 4), 0x1111_ABCD);
+    assert_eq!(desk.loads(lwz(4, 20), 4), 0x1111_1111);
+}
+
+#[test]
+fn k31_a_commit_of_four_bytes() {
+    let mut desk = Desk::over(MEMORY);
+    desk.memory[0] = 0xAAAA_AAAA_0000_0000;
+    desk.step(0, BEGIN, Answer::Done);
+    desk.stores(7, stw(3, 4));
+    desk.step(0, END, Answer::Done);
+    assert_eq!(desk.memory[0], 0xAAAA_AAAA_0000_0007);
+}
+
+#[test]
+fn k32_addresses() {
+    let mut desk = Desk::over(LINE);
+    for event in [
+        lhz(4, 1),
+        lwz(4, 2),
+        stw(3, 6),
+        lbz(4, 128),
+        stw(3, 128),
+        ld(16),
+    ] {
+        desk.step(0, event, Answer::Operand);
+    }
+    for event in [lbz(4, 127), stw(3, 124), lbz(4, 16)] {
+        desk.step(0, event, Answer::Done);
+    }
+}
+
+#[test]
+fn k33_conflicts_go_by_the_line() {
+    let mut desk = Desk::over(MEMORY);
+    desk.step(0, BEGIN, Answer::Done);
+    desk.step(0, lbz(4, 0), Answer::Done);
+    desk.step(1, stb(3, 128), Answer::Done);
+    assert_eq!(desk.machine.threads[0].control.state, State::T);
+    desk.step(1, stb(3, 127), Answer::Done);
+    assert_eq!(desk.texasr(), 0x0008_0000_1800_0001);
+}
+
+#[test]
+fn k34_bytes_in_suspended_state() {
+    let mut desk = Desk::over(MEMORY);
+    desk.step(0, BEGIN, Answer::Done);
+    desk.stores(0xFF, stb(3, 0));
+    desk.step(0, Event::Tsr { l: false }, Answer::Done);
+    assert_eq!(desk.loads(lbz(4, 0), 4), 0xFF);
+    desk.step(0, stb(3, 9), Answer::Recorded);
+    assert_eq!(desk.texasr(), 0x0010_0000_9C00_0001);
+    assert_eq!(desk.memory[..2], [0, 0x00FF_0000_0000_0000]);
+}
+
+#[test]
+fn k35_a_log_full_of_bytes() {
+    let mut desk = Desk::over(MEMORY);
+    desk.step(0, BEGIN, Answer::Done);
+    for n in 0..64 {
+        desk.stores(1, stb(3, 8 * n));
+    }
+    assert_eq!(desk.log().len(), 64);
+    desk.stores(2, stb(3, 505));
+    let last = desk.log().last().unwrap();
+    assert_eq!(
+        (desk.log().len(), last.index, last.marks, last.value),
+        (64, 63, 0xC0, 0x0102_0000_0000_0000)
+    );
+    desk.step(0, stb(3, 512), Answer::Handled);
+    assert_eq!(desk.texasr(), 0x0020_0000_1C00_0001);
+}
+
+#[test]
+fn k36_a_lock_s_word_beside_a_counter() {
+    for taken in [false, true] {
+        let mut desk = Desk::over(MEMORY);
+        desk.machine.threads[1].live.gpr[6] = 1;
+        desk.step(0, BEGIN, Answer::Done);
+        assert_eq!(desk.loads(lwz(4, 0), 4), 0);
+        assert_eq!(desk.loads(lwz(5, 4), 5), 0);
+        let (rt, ra, si) = (5, 5, 1);
+        desk.step(0, Event::Addi { rt, ra, si }, Answer::Done);
+        desk.step(0, stw(5, 4), Answer::Done);
+        if taken {
+            desk.step(1, stw(6, 0), Answer::Done);
+            assert_eq!(desk.texasr(), 0x0008_0000_1800_0001);
+            assert_eq!(desk.memory[0], 0x0000_0001_0000_0000);
+        } else {
+            desk.step(0, END, Answer::Done);
+            assert_eq!(desk.memory[0], 0x0000_0000_0000_0001);
+        }
     }
 }

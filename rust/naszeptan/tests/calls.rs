@@ -3,7 +3,8 @@
 
 use std::collections::HashSet;
 
-use naszeptan::{raw, Answer, Ended, Event, Machine, State, Tape, Texasr, LEVELS, MEMORY, VERSION};
+use naszeptan::{raw, Answer, Ended, Entry, Event, Machine, State, Tape, Texasr};
+use naszeptan::{ALL_MARKS, LEVELS, MEMORY, VERSION};
 use naszeptan::{SPR_SRR0, SPR_SRR1, SPR_TEXASR, SPR_TEXASRU, SPR_TFHAR, SPR_TFIAR};
 
 /// Steps a clone, which must be left as it was.
@@ -34,6 +35,7 @@ fn version() {
     let header = include_str!("../../../include/naszeptan.h");
     assert!(header.contains(&format!("NASZEPTAN_VERSION UINT32_C(0x{VERSION:08X})")));
     assert!(header.contains(&format!("#define NASZEPTAN_LEVELS {LEVELS} ")));
+    assert!(header.contains(&format!("#define NASZEPTAN_ALL_MARKS 0x{ALL_MARKS:X} ")));
 }
 
 #[test]
@@ -96,6 +98,19 @@ fn refusals_of_operands() {
         Event::Tabort { ra: 32 },
         Event::Ld { rt: 0, index: 16 },
         Event::Std { ra: 32, index: 0 },
+        Event::Lbz { rt: 32, address: 0 },
+        Event::Lbz {
+            rt: 0,
+            address: 128,
+        },
+        Event::Lhz { rt: 0, address: 1 },
+        Event::Lwz { rt: 0, address: 2 },
+        Event::Stb {
+            ra: 0,
+            address: u32::MAX,
+        },
+        Event::Sth { ra: 32, address: 2 },
+        Event::Stw { ra: 0, address: 6 },
         Event::Mfspr { rt: 0, spr: 132 },
         Event::Mtspr { spr: 127, ra: 0 },
         Event::Mtspr { spr: 25, ra: 0 },
@@ -140,7 +155,7 @@ const UNUSED_SET: raw::Event = raw::Event {
 #[test]
 fn raw_events_that_are_none() {
     let step = |event| raw::step(raw::fresh(), &mut [5; 16], event).answer;
-    for kind in [0, 20, 255] {
+    for kind in [0, 27, 255] {
         assert_eq!(step(raw::Event { kind, ..UNUSED_SET }), 8);
     }
     assert_eq!(step(UNUSED_SET), 9);
@@ -290,8 +305,9 @@ fn a_machine_set_by_hand() {
     let thread = &mut machine.threads[0];
     thread.transaction.reads.insert(2);
     thread.transaction.writes.insert(1);
-    thread.transaction.log[0] = naszeptan::Entry {
+    thread.transaction.log[0] = Entry {
         index: 17,
+        marks: ALL_MARKS,
         value: 9,
     };
     thread.transaction.count = 1;
@@ -306,6 +322,82 @@ fn a_machine_set_by_hand() {
     assert_eq!(thread.control.texasr, Texasr(0));
     assert_eq!(thread.transaction, Default::default());
     assert_eq!(thread.cr(0), 0b0100);
+}
+
+/// A used place has some mark, and bytes without one are 0; a place that is not
+/// used has none (docs/RULES.md, V2 and V15).
+#[test]
+fn marks_of_a_valid_machine() {
+    let (mut machine, _) = begun();
+    machine.threads[0].transaction.writes.insert(1);
+    machine.threads[0].transaction.count = 1;
+    let held = |place: usize, marks, value| {
+        let index = if place == 0 { 17 } else { 0 };
+        let mut machine = machine.clone();
+        let log = &mut machine.threads[0].transaction.log;
+        (log[0].index, log[0].marks) = (17, ALL_MARKS);
+        log[place] = Entry {
+            index,
+            marks,
+            value,
+        };
+        machine.valid(MEMORY)
+    };
+    let none = Err(Answer::NoMachine);
+    for byte in 0..8 {
+        let (mark, value) = (0x80 >> byte, 1 << (56 - 8 * byte));
+        assert_eq!(held(0, mark, value), Ok(()));
+        assert_eq!(held(0, mark, value << 7), Ok(()));
+        assert_eq!(held(0, !mark, value), none);
+        assert_eq!(held(0, !mark, value << 7), none);
+        assert_eq!(held(0, !mark, 0), Ok(()));
+        assert_eq!(held(0, ALL_MARKS, value), Ok(()));
+        assert_eq!(held(0, 0, value), none);
+        assert_eq!(held(1, mark, 0), none);
+        assert_eq!(held(63, mark, 0), none);
+    }
+    assert_eq!(held(0, 0, 0), none);
+    assert_eq!(held(1, 0, 0), Ok(()));
+}
+
+/// A place set by hand, some of whose bytes are stored: these are what a commit
+/// changes, and what [`Entry::over`] says.
+#[test]
+fn a_commit_changes_the_marked_bytes() {
+    let memory_before = 0x1122_3344_5566_7788;
+    for marks in 1..=ALL_MARKS {
+        let bytes: [u8; 8] = std::array::from_fn(|k| match marks & 0x80 >> k {
+            0 => 0,
+            _ => 0xA0 + k as u8,
+        });
+        let place = Entry {
+            index: 17,
+            marks,
+            value: u64::from_be_bytes(bytes),
+        };
+        let (mut machine, mut memory) = begun();
+        memory[17] = memory_before;
+        let transaction = &mut machine.threads[0].transaction;
+        transaction.writes.insert(1);
+        transaction.log[0] = place;
+        transaction.count = 1;
+        assert_eq!(transaction.logged(17), Some(&place));
+        let answer = machine.step(&mut memory, 0, Event::Ld { rt: 3, index: 17 });
+        assert_eq!(answer, Answer::Done);
+        let answer = machine.step(&mut memory, 0, Event::Tend { a: false });
+        assert_eq!(answer, Answer::Done);
+        let right: [u8; 8] = std::array::from_fn(|k| match bytes[k] {
+            0 => memory_before.to_be_bytes()[k],
+            stored => stored,
+        });
+        assert_eq!(memory[17].to_be_bytes(), right, "{marks:08b}");
+        assert_eq!(place.over(memory_before), memory[17]);
+        assert_eq!(machine.threads[0].live.gpr[3], memory[17]);
+        let stored: Vec<u8> = (0..=255).filter(|&k| place.is_stored(k)).collect();
+        assert!(stored.iter().all(|&k| bytes[usize::from(k)] != 0));
+        assert_eq!(stored.len(), marks.count_ones() as usize);
+        assert_eq!(place.is_whole(), stored.len() == 8);
+    }
 }
 
 /// A live transaction has some level, and any but 0 (docs/RULES.md, V9).

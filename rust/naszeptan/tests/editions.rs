@@ -68,8 +68,18 @@ fn threads_above_3() {
 /// Edition two has no kind above 17. A thread that it has not is told before.
 #[test]
 fn kinds_above_17() {
-    let (tm, pr) = (true, false);
-    for event in [Event::Rfid, Event::Mtmsrd { ts: Ts::T, tm, pr }] {
+    let (ts, tm, pr, address) = (Ts::T, true, false, 0);
+    for event in [
+        Event::Rfid,
+        Event::Mtmsrd { ts, tm, pr },
+        Event::Lbz { rt: 0, address },
+        Event::Lhz { rt: 0, address },
+        Event::Lwz { rt: 0, address },
+        Event::Stb { ra: 0, address },
+        Event::Sth { ra: 0, address },
+        Event::Stw { ra: 0, address },
+        Event::Tlbie { page: 0 },
+    ] {
         assert_eq!(event.write_in(Edition::Two, 3), Err(Answer::NoKind));
         assert_eq!(event.write_in(Edition::Two, 4), Err(Answer::NoThread));
         let three = event.write_in(Edition::Three, 3).unwrap();
@@ -129,7 +139,7 @@ fn writer() {
     let store = Event::Std { ra: 3, index: 17 }.to_raw(0);
     let far = raw::Event { thread: 4, ..store };
     let unused = raw::Event { rb: 1, ..far };
-    let none = raw::Event { kind: 20, ..unused };
+    let none = raw::Event { kind: 27, ..unused };
     for len in [0, 15, 16, 20] {
         let mut buffer = [0xAA; 20];
         assert_eq!(raw::write_two(none, &mut buffer[..len]), 8);
@@ -163,7 +173,9 @@ fn refusals_have_a_number_and_an_index() {
         (with(THREE, 2, 4), Answer::NoThread),
         (TWO, Answer::BadFirstByte),
         (with(THREE, 1, 0), Answer::NoKind),
-        (with(THREE, 1, 20), Answer::NoKind),
+        (with(THREE, 1, 20), Answer::Field),
+        (with(THREE, 1, 23), Answer::NoKind),
+        (with(THREE, 1, 27), Answer::NoKind),
         (with(THREE, 15, 1), Answer::Field),
     ] {
         for index in 0..2 {

@@ -86,6 +86,51 @@ fn others() {
     desk.spares(1, store(17));
 }
 
+/// Accesses of some bytes conflict by the line, as those of a doubleword do.
+#[test]
+fn others_by_bytes() {
+    for store in [
+        Event::Stb {
+            ra: 5,
+            address: 255,
+        },
+        Event::Sth {
+            ra: 5,
+            address: 254,
+        },
+        Event::Stw {
+            ra: 5,
+            address: 128,
+        },
+    ] {
+        let mut desk = Desk::new();
+        desk.spares(0, TBEGIN).spares(
+            0,
+            Event::Lbz {
+                rt: 4,
+                address: 129,
+            },
+        );
+        desk.spares(2, TBEGIN).spares(
+            2,
+            Event::Lwz {
+                rt: 4,
+                address: 252,
+            },
+        );
+        desk.spares(3, TBEGIN).spares(
+            3,
+            Event::Lhz {
+                rt: 4,
+                address: 256,
+            },
+        );
+        desk.spares(2, TSUSPEND);
+        desk.fails(1, store, Answer::Done, &[0, 2]);
+        desk.spares(1, store);
+    }
+}
+
 #[test]
 fn itself_and_others() {
     let mut desk = Desk::new();

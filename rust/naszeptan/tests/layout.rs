@@ -27,7 +27,7 @@ fn lines() {
 
 #[test]
 fn entry() {
-    assert_eq!(layout!(Entry, index, value), (16, 8, vec![0, 8]));
+    assert_eq!(layout!(Entry, index, marks, value), (16, 8, vec![0, 4, 8]));
 }
 
 #[test]

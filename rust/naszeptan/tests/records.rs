@@ -48,6 +48,19 @@ fn with_bytes() -> Vec<Event> {
     all
 }
 
+/// The accesses of one, two and four bytes, kinds 20 to 25, of one register and
+/// at one address.
+const fn narrow(r: u8, address: u32) -> [Event; 6] {
+    [
+        Event::Lbz { rt: r, address },
+        Event::Lhz { rt: r, address },
+        Event::Lwz { rt: r, address },
+        Event::Stb { ra: r, address },
+        Event::Sth { ra: r, address },
+        Event::Stw { ra: r, address },
+    ]
+}
+
 /// Events of every kind.
 fn events() -> Vec<Event> {
     let mut all = flagged();
@@ -61,6 +74,7 @@ fn events() -> Vec<Event> {
         for index in [0, 17, 4095, 4096, 0x0102_0304, u32::MAX] {
             all.push(Event::Ld { rt: x, index });
             all.push(Event::Std { ra: x, index });
+            all.extend(narrow(x, index));
         }
     }
     all
@@ -83,7 +97,7 @@ fn no_two_events_look_alike() {
     let texts: HashSet<_> = all.iter().map(Event::to_string).collect();
     assert_eq!(texts.len(), all.len());
     let kinds: HashSet<_> = all.iter().map(|event| event.kind()).collect();
-    assert_eq!(kinds, (1..=19).chain([26]).collect());
+    assert_eq!(kinds, (1..=26).collect());
 }
 
 /// TS + 4 x TM + 8 x PR; of a TS above 3 the two low bits count.
@@ -99,6 +113,30 @@ fn flags_of_mtmsrd() {
         assert_eq!(event.to_raw(0).flags, flags);
         let right = [0xE3, 19, 0, 0, 0, 0, flags, 0, 0, 0, 0, 0, 0, 0, 0, 0];
         assert_eq!(event.write_in(Edition::Three, 0), Ok(right));
+    }
+}
+
+/// The byte address stands in the index, RT in X and RA in RA.
+#[test]
+fn the_records_of_narrow_accesses() {
+    let texts = ["lbz", "lhz", "lwz", "stb", "sth", "stw"];
+    for ((kind, event), name) in (20..).zip(narrow(7, 0x0102_0304)).zip(texts) {
+        let (x, ra) = if kind <= 22 { (7, 0) } else { (0, 7) };
+        let right = [0xE3, kind, 2, x, ra, 0, 0, 0, 1, 2, 3, 4, 0, 0, 0, 0];
+        assert_eq!(event.write_in(Edition::Three, 2), Ok(right));
+        assert_eq!(event.write_in(Edition::Two, 2), Err(Answer::NoKind));
+        assert_eq!(event.to_string(), format!("{name} r7, address 16909060"));
+        assert!(!event.is_tm() && !event.is_privileged());
+        let fields = event.to_raw(2);
+        let unused = raw::Event {
+            x: 1,
+            ra: 1,
+            ..fields
+        };
+        let flagged = raw::Event { flags: 1, ..fields };
+        for fields in [unused, flagged] {
+            assert_eq!(Event::from_raw(fields), Err(Answer::Field));
+        }
     }
 }
 
@@ -129,7 +167,7 @@ fn the_record_of_a_tlbie() {
 fn rows_by_their_numbers() {
     for number in 0..=255 {
         let row = Kind::of(number);
-        assert_eq!(row.is_some(), matches!(number, 1..=19 | 26), "{number}");
+        assert_eq!(row.is_some(), matches!(number, 1..=26), "{number}");
         let fields = raw::Event {
             kind: number,
             ..raw::Event::default()

@@ -2,7 +2,7 @@
 
 use std::collections::HashSet;
 
-use naszeptan::{Entry, Event, Machine, State, Tape, Texasr, Thread, MEMORY, PLACES};
+use naszeptan::{Entry, Event, Machine, State, Tape, Texasr, Thread, ALL_MARKS, MEMORY, PLACES};
 
 /// The machine after README's elision, and thread 2 in a transaction.
 fn used() -> Machine {
@@ -96,6 +96,8 @@ fn changed(thread: &Thread) -> Vec<Thread> {
     }
     for n in 0..PLACES {
         with(&|t| t.transaction.log[n].index ^= 8);
+        with(&|t| t.transaction.log[n].marks ^= 8);
+        with(&|t| t.transaction.log[n].marks ^= 0xFF);
         with(&|t| t.transaction.log[n].value ^= 8);
     }
     with(&|t| t.transaction.count += 1);
@@ -132,9 +134,36 @@ fn used_places_are_counted() {
     let mut thread = Thread::default();
     assert_eq!(thread.to_string(), "N");
     thread.transaction.count = 1;
-    assert_eq!(thread.to_string(), "N\n    log of 1: 0=0x0");
-    thread.transaction.log[1] = Entry { index: 5, value: 6 };
-    assert_eq!(thread.to_string(), "N\n    log of 1: 0=0x0 5=0x6");
+    let unmarked = "N\n    log of 1: 0=0x0 (marks 0x00)";
+    assert_eq!(thread.to_string(), unmarked);
+    let (index, marks, value) = (5, ALL_MARKS, 6);
+    thread.transaction.log[1] = Entry {
+        index,
+        marks,
+        value,
+    };
+    assert_eq!(thread.to_string(), format!("{unmarked} 5=0x6"));
+}
+
+/// Marks are shown where not all eight bytes were stored.
+#[test]
+fn bytes_that_were_stored() {
+    let (mut machine, mut memory) = (Machine::fresh(), [0; 16]);
+    machine.threads[0].live.gpr[3] = 0x1122;
+    for event in [
+        Event::Tbegin { r: false },
+        Event::Std { ra: 3, index: 1 },
+        Event::Stb { ra: 3, address: 23 },
+        Event::Sth { ra: 3, address: 4 },
+        Event::Stw { ra: 3, address: 0 },
+        Event::Stw { ra: 3, address: 12 },
+    ] {
+        assert!(machine.step(&mut memory, 0, event).is_done());
+    }
+    let text = machine.threads[0].to_string();
+    let log = "writes 0, log of 3: 1=0x1122 2=0x22 (marks 0x01) \
+               0=0x112211220000 (marks 0xFC)";
+    assert_eq!(text.lines().last(), Some(format!("    {log}").as_str()));
 }
 
 /// SRR1 with what it asks for.

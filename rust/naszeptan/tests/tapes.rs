@@ -230,3 +230,17 @@ fn returns() {
 fn too_long() {
     hold("too_long");
 }
+
+/// The stores of words, and nothing of the bytes that a failed transaction had.
+#[test]
+fn words() {
+    hold("words");
+    let (mut machine, mut memory) = (Machine::fresh(), vec![0; MEMORY]);
+    let ended = machine.run(&mut memory, tape("words"));
+    assert_eq!((ended.answer, ended.count), (Answer::Operand, 14));
+    assert_eq!(memory[..2], [0x0000_0001_0000_0001, 0x0001_0000_0000_0000]);
+    assert!(memory[2..].iter().all(|&doubleword| doubleword == 0));
+    assert_eq!(machine.threads[1].live.gpr[7], 1);
+    let control = &machine.threads[0].control;
+    assert_eq!(control.texasr.0, 0x0008_0000_1800_0001);
+}

@@ -195,6 +195,7 @@ mod tests {
     use super::*;
     use crate::tapes::kinds;
     use model::run;
+    use naszeptan::KINDS;
 
     fn ended(tape: &[u8]) -> (u8, usize) {
         let ended = run(&mut Machine::fresh(), &mut vec![0; MAX_MEMORY], tape);
@@ -216,11 +217,19 @@ mod tests {
         }
     }
 
+    /// Every kind but 20 to 25, the narrow accesses, which have a tape of their
+    /// own.
     #[test]
     fn every_kind_occurs() {
         for seed in 0..20 {
-            let rare = kinds(&tape(50_000, seed)).into_iter().min();
-            assert!(rare >= Some(10), "seed {seed}: {rare:?}");
+            let counts = kinds(&tape(50_000, seed));
+            for (row, count) in KINDS.iter().zip(counts) {
+                let right = match row.number {
+                    20..=25 => count == 0,
+                    _ => count >= 10,
+                };
+                assert!(right, "seed {seed}: {} {count}", row.name);
+            }
         }
     }
 

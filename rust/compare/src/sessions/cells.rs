@@ -116,7 +116,7 @@ const FEED: [Situation; 19] = [
     ("the count wraps", |v| v.goes_on() && v.after.count < v.before.count),
     ("a right first byte held", |v| v.goes_on() && v.after.held > 0 && v.after.bytes[0] == MARK),
     ("a wrong first byte held", |v| v.goes_on() && v.after.held > 0 && v.after.bytes[0] != MARK),
-    ("a wrong kind held", |v| v.goes_on() && v.after.held > 1 && v.after.bytes[0] == MARK && !matches!(v.after.bytes[1], 1..=19 | 26)),
+    ("a wrong kind held", |v| v.goes_on() && v.after.held > 1 && v.after.bytes[0] == MARK && !matches!(v.after.bytes[1], 1..=26)),
 ];
 
 #[rustfmt::skip]

@@ -94,7 +94,7 @@ fn damaged_record(rng: &mut Rng, edition: Edition) -> [u8; RECORD] {
         let above = rng.pick([4, 5, 255, any | 4]);
         match rng.below(5) {
             0 => record[0] = rng.pick([0, 3, 4, MARK - 1, MARK, MARK + 1, any]),
-            1 => record[1] = rng.pick([0, 18, 19, 20, 26, 255, any]),
+            1 => record[1] = rng.pick([0, 18, 19, 20, 26, 27, 255, any]),
             // Edition three has its thread here, edition two an operand.
             2 => record[2] = above,
             3 => record[2 + rng.below(RECORD - 2)] ^= 1 << rng.below(8),

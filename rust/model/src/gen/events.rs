@@ -2,8 +2,8 @@
 
 use super::machines::line;
 use super::rng::{msr, Rng};
-use crate::machine::{Machine, Msr, Thread, LINE, LOG, PAGE, THREADS};
-use crate::tape::KINDS;
+use crate::machine::{Machine, Msr, Thread, ALL_BYTES, LINE, LOG, PAGE, THREADS};
+use crate::tape::LAST_KIND;
 use crate::Event;
 
 fn register(rng: &mut Rng) -> u8 {
@@ -57,6 +57,44 @@ fn index(rng: &mut Rng, m: &Machine, len: usize, thread: u8) -> u32 {
     i as u32
 }
 
+/// A byte address for an access of this width by this thread: mostly a multiple
+/// of the width in the doubleword of an index as above, often in a place of the
+/// log that is stored in part; now and then no multiple, and around the end of the
+/// memory, in bytes and in doublewords.
+fn address(rng: &mut Rng, m: &Machine, len: usize, thread: u8, width: u32) -> u32 {
+    let partly = part_stored(rng, m, thread);
+    let index = match partly.filter(|_| rng.one_in(4)) {
+        Some(index) => index,
+        None => index(rng, m, len, thread),
+    };
+    let within = rng.below(8) as u32;
+    let any = index.wrapping_mul(8) | within;
+    let end = (8 * len) as u32;
+    match rng.below(32) {
+        0 => any,
+        1 => rng.pick([
+            end.wrapping_sub(width),
+            end.wrapping_sub(1),
+            end,
+            end.wrapping_add(width),
+            len as u32,
+            u32::MAX - width + 1,
+            u32::MAX,
+            any | 1 << 31,
+        ]),
+        _ => any - any % width,
+    }
+}
+
+/// A doubleword that the thread's log has in part.
+fn part_stored(rng: &mut Rng, m: &Machine, thread: u8) -> Option<u32> {
+    let t = m.threads.get(usize::from(thread))?;
+    let used = &t.log[..t.count.min(LOG)];
+    let from = rng.below(used.len());
+    let mut around = used[from..].iter().chain(&used[..from]);
+    around.find(|e| e.marks != ALL_BYTES).map(|e| e.index)
+}
+
 /// The page beside one of the thread's lines that is at a border of its own.
 fn page_beside(rng: &mut Rng, t: &Thread, lines: usize) -> Option<usize> {
     let both = t.reads.union(&t.writes);
@@ -107,8 +145,8 @@ pub fn event(rng: &mut Rng, m: &Machine, len: usize) -> (u8, Event) {
         rng.below(count) as u8
     };
     let kind = rng.pick([
-        1, 2, 3, 4, 5, 6, 7, 8, 9, 10, 11, 12, 13, 14, 15, 16, 17, 18, 19, 26, 1, 2, 6, 10, 12, 12,
-        13, 13, 13, 18, 19, 26, 26,
+        1, 2, 3, 4, 5, 6, 7, 8, 9, 10, 11, 12, 13, 14, 15, 16, 17, 18, 19, 20, 21, 22, 23, 24, 25,
+        26, 1, 2, 2, 6, 10, 12, 12, 13, 13, 13, 18, 18, 19, 19, 20, 21, 22, 23, 24, 25, 26, 26,
     ]);
     (thread, event_of(rng, m, len, thread, kind))
 }
@@ -143,7 +181,7 @@ impl Fields {
     }
 }
 
-/// An event of this kind, 1 to 19 or 26, for this machine; other numbers give 26.
+/// An event of this kind, 1 to 26, for this machine; other numbers give 26.
 pub fn event_of(rng: &mut Rng, m: &Machine, len: usize, thread: u8, kind: u8) -> Event {
     // Drawn whatever the kind: coverage tables rest on the order of the draws.
     let Fields { to, bf, spr } = Fields::draw(rng);
@@ -170,6 +208,7 @@ pub fn event_of(rng: &mut Rng, m: &Machine, len: usize, thread: u8, kind: u8) ->
             let Msr { ts, tm, pr } = msr(rng);
             Event::Mtmsrd { ts, tm, pr }
         }
+        20..=25 => narrow_access(rng, m, len, thread, kind),
         _ => Event::Tlbie {
             page: page(rng, m, len, thread),
         },
@@ -208,6 +247,29 @@ fn access(rng: &mut Rng, m: &Machine, len: usize, thread: u8, store: bool) -> Ev
     }
 }
 
+/// lbz, lhz, lwz, stb, sth or stw.
+fn narrow_access(rng: &mut Rng, m: &Machine, len: usize, thread: u8, kind: u8) -> Event {
+    let r = register(rng);
+    let width = match kind {
+        20 | 23 => 1,
+        21 | 24 => 2,
+        _ => 4,
+    };
+    narrow(kind, r, address(rng, m, len, thread, width))
+}
+
+/// The access of this kind, 20 to 25; other numbers give 25.
+fn narrow(kind: u8, r: u8, address: u32) -> Event {
+    match kind {
+        20 => Event::Lbz { rt: r, address },
+        21 => Event::Lhz { rt: r, address },
+        22 => Event::Lwz { rt: r, address },
+        23 => Event::Stb { ra: r, address },
+        24 => Event::Sth { ra: r, address },
+        _ => Event::Stw { ra: r, address },
+    }
+}
+
 fn addi(rng: &mut Rng) -> Event {
     let si = rng.bits() as u16;
     Event::Addi {
@@ -224,7 +286,7 @@ pub fn any_event(rng: &mut Rng) -> (u8, Event) {
     let si = rng.bits() as u16;
     let one = one & 1 != 0;
     let two = two & 1 != 0;
-    let e = match KINDS[rng.below(KINDS.len())] {
+    let e = match 1 + rng.below(usize::from(LAST_KIND)) as u8 {
         1 => Event::Tbegin { r: one },
         2 => Event::Tend { a: one },
         3 => Event::Tabort { ra },
@@ -248,6 +310,7 @@ pub fn any_event(rng: &mut Rng) -> (u8, Event) {
             tm: one,
             pr: two,
         },
+        kind @ 20..=25 => narrow(kind, ra, index),
         _ => Event::Tlbie { page: index },
     };
     (thread, e)

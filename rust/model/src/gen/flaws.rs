@@ -1,8 +1,8 @@
 //! Machines that are not valid, or of a wrong shape, and the ways to be so.
 
 use super::machines::{level, line, valid_machine};
-use super::rng::{value, Rng};
-use crate::machine::{texasr, Entry, Machine, State, Thread, LINE, THREADS};
+use super::rng::{marks, value, Rng};
+use crate::machine::{mask, texasr, Entry, Machine, State, Thread, LINE, LOG, THREADS};
 
 /// One way in which a machine is not valid, or in which its shape is wrong.
 #[derive(Clone, Copy, PartialEq, Eq, Debug)]
@@ -53,10 +53,16 @@ pub enum Flaw {
     WriteAgainstRead,
     /// A line written by two threads.
     WriteAgainstWrite,
+    /// A used log place without a mark.
+    NoMark,
+    /// A used log place with a byte that is not marked and not 0.
+    UnmarkedByte,
+    /// An unused log place with a mark and nothing else.
+    UnusedMark,
 }
 
 impl Flaw {
-    pub const ALL: [Flaw; 26] = [
+    pub const ALL: [Flaw; 29] = [
         Flaw::ThreadCount,
         Flaw::MemoryLength,
         Flaw::LogCount,
@@ -83,6 +89,9 @@ impl Flaw {
         Flaw::IndexNotWritten,
         Flaw::WriteAgainstRead,
         Flaw::WriteAgainstWrite,
+        Flaw::NoMark,
+        Flaw::UnmarkedByte,
+        Flaw::UnusedMark,
     ];
 
     /// Whether the flaw is one of shape: number 1, not 2.
@@ -125,7 +134,7 @@ fn shake(rng: &mut Rng, m: &mut Machine, len: usize) {
     let level = if tidy { level(rng) } else { 0 };
     let address = if tidy { word & !3 } else { word };
     let t = &mut m.threads[rng.below(THREADS)];
-    match rng.below(18) {
+    match rng.below(21) {
         0 => t.live.gpr[rng.below(32)] = word,
         1 => t.live.cr[rng.below(7)] = rng.byte() & 31,
         2 => t.checkpoint.cr[rng.below(7)] = rng.byte() & 31,
@@ -142,7 +151,19 @@ fn shake(rng: &mut Rng, m: &mut Machine, len: usize) {
         13 => t.writes.insert(l),
         14 => t.srr0 = word,
         15 => t.srr1 = word,
-        16 => add_place(t, Entry { index, value: word }, tidy),
+        16 => {
+            let marks = marks(rng);
+            let value = if tidy { word & mask(marks) } else { word };
+            let entry = Entry {
+                index,
+                marks,
+                value,
+            };
+            add_place(t, entry, tidy);
+        }
+        17 => mark_place(rng, t, tidy),
+        18 => t.log[rng.below(LOG)].marks = rng.byte(),
+        19 => t.log[rng.below(LOG)].value = word,
         _ => drop_place(t, tidy),
     }
 }
@@ -156,6 +177,17 @@ fn add_place(t: &mut Thread, entry: Entry, tidy: bool) {
         if tidy {
             t.writes.insert(entry.index as usize / LINE);
         }
+    }
+}
+
+/// Gives a used place other marks; a tidy one keeps no byte without a mark.
+fn mark_place(rng: &mut Rng, t: &mut Thread, tidy: bool) {
+    let at = rng.below(t.count.min(LOG));
+    let entry = &mut t.log[at];
+    let any = rng.byte();
+    entry.marks = if tidy { marks(rng) } else { any };
+    if tidy {
+        entry.value &= mask(entry.marks);
     }
 }
 

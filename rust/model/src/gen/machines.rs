@@ -1,9 +1,9 @@
 //! Valid machines and their memories.
 
-use super::rng::{srr1, value, Rng};
+use super::rng::{marks, srr1, value, Rng};
 use crate::machine::{
-    texasr, Entry, LineSet, Machine, Registers, State, Thread, LINE, LOG, MAX_FOOTPRINT, MAX_LEVEL,
-    MAX_MEMORY, PAGE, THREADS,
+    mask, texasr, Entry, LineSet, Machine, Registers, State, Thread, LINE, LOG, MAX_FOOTPRINT,
+    MAX_LEVEL, MAX_MEMORY, PAGE, THREADS,
 };
 
 /// An instruction address: a multiple of 4.
@@ -112,9 +112,11 @@ fn fill_log(rng: &mut Rng, t: &mut Thread, lines: usize) {
     }
     t.count = indices.len();
     for (place, i) in t.log.iter_mut().zip(indices) {
+        let marks = marks(rng);
         *place = Entry {
             index: i as u32,
-            value: value(rng),
+            marks,
+            value: value(rng) & mask(marks),
         };
     }
 }

@@ -15,5 +15,5 @@ pub use editions::{damaged_tape, good_record, good_tape, later_record, near_reco
 pub use events::{any_event, event, event_of};
 pub use flaws::{broken_machine, flawed_machine, shaken_machine, Flaw};
 pub use machines::{length, machine, memory, valid_machine};
-pub use rng::{msr, srr1, value, Rng};
+pub use rng::{marks, msr, srr1, value, Rng};
 pub use tapes::{record, short_transactions, tape};

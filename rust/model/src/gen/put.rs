@@ -3,7 +3,8 @@
 use super::flaws::Flaw;
 use super::rng::Rng;
 use crate::machine::{
-    texasr, valid, Entry, LineSet, Machine, State, Thread, LINE, LOG, MAX_FOOTPRINT,
+    mask, texasr, valid, Entry, LineSet, Machine, State, Thread, ALL_BYTES, LINE, LOG,
+    MAX_FOOTPRINT,
 };
 
 impl Flaw {
@@ -45,6 +46,9 @@ impl Flaw {
             Flaw::IndexNotWritten => return index_not_written(rng, t, at.free),
             Flaw::WriteAgainstRead => return write_against(rng, m, &at, false),
             Flaw::WriteAgainstWrite => return write_against(rng, m, &at, true),
+            Flaw::NoMark => return no_mark(rng, t),
+            Flaw::UnmarkedByte => return unmarked_byte(rng, t),
+            Flaw::UnusedMark => return unused_mark(rng, t),
         }
         true
     }
@@ -107,6 +111,48 @@ fn unused_place(rng: &mut Rng, t: &mut Thread, len: usize) -> bool {
     true
 }
 
+fn unused_mark(rng: &mut Rng, t: &mut Thread) -> bool {
+    let Some(e) = last_or_any(rng, &mut t.log[t.count..]) else {
+        return false;
+    };
+    e.marks = rng.pick([1, 0x80, 0x0F, ALL_BYTES]);
+    true
+}
+
+fn no_mark(rng: &mut Rng, t: &mut Thread) -> bool {
+    let Some(e) = last_or_any(rng, &mut t.log[..t.count]) else {
+        return false;
+    };
+    (e.marks, e.value) = (0, 0);
+    true
+}
+
+fn unmarked_byte(rng: &mut Rng, t: &mut Thread) -> bool {
+    let Some(e) = last_or_any(rng, &mut t.log[..t.count]) else {
+        return false;
+    };
+    // Take one mark away where there is none missing.
+    if e.marks == ALL_BYTES {
+        e.marks ^= 1 << rng.below(8);
+        e.value &= mask(e.marks);
+    }
+    let unmarked: Vec<u64> = (0..64)
+        .map(|n| 1 << n)
+        .filter(|bit| bit & mask(e.marks) == 0)
+        .collect();
+    e.value |= unmarked[rng.below(unmarked.len())];
+    true
+}
+
+/// A place that is sound in itself.
+fn sound_place(index: usize) -> Entry {
+    Entry {
+        index: index as u32,
+        marks: ALL_BYTES,
+        value: 5,
+    }
+}
+
 fn past_count(rng: &mut Rng, m: &mut Machine) -> bool {
     let Some(t) = last_or_any(rng, &mut m.threads[m.count..]) else {
         return false;
@@ -140,7 +186,7 @@ fn log_not_live(t: &mut Thread, free: Option<usize>, with_its_line: bool) -> boo
         return false;
     };
     t.count = 1;
-    t.log[0].index = (l * LINE) as u32;
+    t.log[0] = sound_place(l * LINE);
     if with_its_line {
         t.writes.insert(l);
     }
@@ -194,7 +240,7 @@ fn index_outside(rng: &mut Rng, t: &mut Thread, len: usize) -> bool {
     }
     let i = len + rng.pick([0, 1, 16, 4096, 1 << 20]);
     let i = rng.pick([i as u32, i as u32, u32::MAX]);
-    t.log[t.count] = Entry { index: i, value: 5 };
+    t.log[t.count] = sound_place(i as usize);
     t.count += 1;
     t.writes.insert(i as usize / LINE);
     true
@@ -214,7 +260,7 @@ fn same_index(rng: &mut Rng, t: &mut Thread) -> bool {
         return false;
     }
     let i = t.log[rng.below(t.count)].index;
-    t.log[t.count] = Entry { index: i, value: 9 };
+    t.log[t.count] = sound_place(i as usize);
     t.count += 1;
     true
 }
@@ -231,7 +277,7 @@ fn index_not_written(rng: &mut Rng, t: &mut Thread, free: Option<usize>) -> bool
     let Some(l) = free.filter(|_| t.is_live() && t.count < LOG) else {
         return false;
     };
-    t.log[t.count].index = (l * LINE + rng.below(LINE)) as u32;
+    t.log[t.count] = sound_place(l * LINE + rng.below(LINE));
     t.count += 1;
     true
 }
@@ -247,7 +293,7 @@ fn write_against(rng: &mut Rng, m: &mut Machine, at: &Spot, write: bool) -> bool
         return false;
     }
     if write {
-        o.log[o.count].index = (l * LINE + rng.below(LINE)) as u32;
+        o.log[o.count] = sound_place(l * LINE + rng.below(LINE));
         o.count += 1;
         o.writes.insert(l);
     } else {
@@ -270,7 +316,7 @@ fn last_or_any<'a, T>(rng: &mut Rng, from: &'a mut [T]) -> Option<&'a mut T> {
 fn taint(rng: &mut Rng, t: &mut Thread) {
     let bit = 1 << rng.below(64);
     let byte = 1 << rng.below(8);
-    match rng.below(21) {
+    match rng.below(22) {
         0 => t.live.gpr[rng.below(32)] = bit,
         1 => t.live.cr[rng.below(7)] = byte,
         2 => t.cr0 = byte,
@@ -291,6 +337,7 @@ fn taint(rng: &mut Rng, t: &mut Thread) {
         17 => t.writes.0[rng.below(4)] = bit,
         18 => t.count = rng.pick([1, 64, 65, usize::MAX]),
         19 => t.log[rng.below(LOG)].index = 1 << rng.below(32),
+        20 => t.log[rng.below(LOG)].marks = byte,
         _ => t.log[rng.below(LOG)].value = bit,
     }
 }

@@ -1,6 +1,6 @@
 //! The generator, and values drawn from it.
 
-use crate::machine::{texasr, Msr, MAX_LEVEL};
+use crate::machine::{texasr, Msr, ALL_BYTES, MAX_LEVEL};
 
 /// A xorshift generator: the same seed gives the same numbers.
 #[derive(Clone, Debug)]
@@ -74,6 +74,18 @@ pub fn value(rng: &mut Rng) -> u64 {
             0x5_0000_4000,
             0x3_0000_4000,
         ]),
+    }
+}
+
+/// The marks of a used log place: all eight, those of one access, or any.
+pub fn marks(rng: &mut Rng) -> u8 {
+    let width = rng.pick([1, 2, 4]);
+    let one = ALL_BYTES >> (8 - width) << (width * rng.below(8 / width));
+    let any = rng.byte();
+    let few = any & rng.byte() & rng.byte();
+    match rng.pick([ALL_BYTES, ALL_BYTES, one, one, any, few]) {
+        0 => one,
+        marks => marks,
     }
 }
 

@@ -1,5 +1,5 @@
-//! Doing one event: rules E1 to E19, E26 and A0 to A6, and the tests of an event,
-//! rule N2. Who failed in it, rule H8, is noted where the failure is recorded
+//! Doing one event: rules E1 to E26 and A0 to A7, and the tests of an event, rule
+//! N2. Who failed in it, rule H8, is noted where the failure is recorded
 //! or handled.
 //!
 //! The tests of an event stand in `attempt`; the function that does it is in
@@ -18,7 +18,7 @@ use crate::answer;
 use crate::machine::State::{N, S};
 use crate::machine::{valid, Machine, Msr, THREADS};
 use crate::Event;
-use access::{load, store};
+use access::{load, narrow_load, narrow_store, store, Bytes};
 use pages::tlbie;
 use refusals::{access, page_in_memory, test};
 
@@ -143,11 +143,11 @@ fn attempt(m: &mut Machine, mem: &mut [u64], thread: u8, e: Event) -> Result<Wen
         Event::Mfspr { rt, spr } => t.special(spr, rt)?.may_name(spr)?.mfspr(rt, spr),
         Event::Ld { rt, index } => {
             access(rt, index, mem)?;
-            load(m, mem, me, rt, index)
+            load(m, mem, me, rt, Bytes::all(index))
         }
         Event::Std { ra, index } => {
             access(ra, index, mem)?;
-            store(m, mem, me, ra, index)
+            store(m, mem, me, ra, Bytes::all(index))
         }
         Event::Addi { rt, ra, si } => t.register(rt)?.register(ra)?.addi(rt, ra, si),
         Event::Disallowed => t.disallowed(),
@@ -155,6 +155,12 @@ fn attempt(m: &mut Machine, mem: &mut [u64], thread: u8, e: Event) -> Result<Wen
         Event::Host { pr, tm } => t.host_may()?.host(pr, tm),
         Event::Rfid => t.privileged()?.rfid()?,
         Event::Mtmsrd { ts, tm, pr } => t.privileged()?.mtmsrd(Msr { ts, tm, pr })?,
+        Event::Lbz { rt, address } => narrow_load(m, mem, me, rt, address, 1)?,
+        Event::Lhz { rt, address } => narrow_load(m, mem, me, rt, address, 2)?,
+        Event::Lwz { rt, address } => narrow_load(m, mem, me, rt, address, 4)?,
+        Event::Stb { ra, address } => narrow_store(m, mem, me, ra, address, 1)?,
+        Event::Sth { ra, address } => narrow_store(m, mem, me, ra, address, 2)?,
+        Event::Stw { ra, address } => narrow_store(m, mem, me, ra, address, 4)?,
         Event::Tlbie { page } => {
             page_in_memory(page, mem)?;
             t.privileged()?;

@@ -22,6 +22,14 @@ pub(super) fn access(r: u8, index: u32, mem: &[u64]) -> Test<()> {
     test(r <= 31 && (index as usize) < mem.len(), answer::OPERAND)
 }
 
+/// Test 4 for a register and a byte address, which is a multiple of the width. It
+/// is below 8 x the length where its doubleword is below the length.
+#[inline(always)]
+pub(super) fn narrow_access(r: u8, address: u32, width: u32, mem: &[u64]) -> Test<()> {
+    test(address % width == 0, answer::OPERAND)?;
+    access(r, address / 8, mem)
+}
+
 /// Test 4 for a page: its first doubleword is in memory (rule M16). The product
 /// has 41 bits at the most, so that it does not wrap.
 #[inline(always)]

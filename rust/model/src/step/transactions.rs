@@ -49,7 +49,7 @@ impl Thread {
     fn commit(&mut self, mem: &mut [u64]) {
         for e in self.log.iter().take(self.count) {
             if let Some(doubleword) = mem.get_mut(e.index as usize) {
-                *doubleword = e.value;
+                *doubleword = e.over(*doubleword);
             }
         }
         self.texasr &= !texasr::TL;

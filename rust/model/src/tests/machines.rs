@@ -1,4 +1,4 @@
-//! Rules V1 to V14: what is valid and what is not.
+//! Rules V1 to V15: what is valid and what is not.
 
 use std::collections::{BTreeMap, BTreeSet};
 
@@ -45,7 +45,7 @@ impl Faults {
         self.clause(t.count <= 64, "log count");
         let mut unused = t.log.iter().skip(t.count);
         self.clause(
-            unused.all(|e| e.index == 0 && e.value == 0),
+            unused.all(|e| e.index == 0 && e.marks == 0 && e.value == 0),
             "unused places",
         );
         self.clause(t.nia & 3 == 0, "nia");
@@ -90,6 +90,8 @@ impl Faults {
             reads.iter().chain(&writes).all(|l| l * 16 < len),
             "lines in memory",
         );
+        self.clause(used.iter().all(|e| e.marks != 0), "a mark");
+        self.clause(used.iter().all(unmarked_are_zero), "bytes without a mark");
         let distinct: BTreeMap<u32, u64> = used.iter().map(|e| (e.index, e.value)).collect();
         self.clause(distinct.len() == used.len(), "distinct indices");
         let logged: BTreeSet<usize> = used.iter().map(|e| e.index as usize / 16).collect();
@@ -105,6 +107,12 @@ impl Faults {
             self.clause(o == n || o >= m.count || apart, "lines of another thread");
         }
     }
+}
+
+/// The mark of byte k has weight 2^(7 - k), and byte 0 is the highest.
+fn unmarked_are_zero(e: &Entry) -> bool {
+    let mut bytes = e.value.to_be_bytes().into_iter().zip((0..8).rev());
+    bytes.all(|(byte, bit)| byte == 0 || e.marks >> bit & 1 == 1)
 }
 
 fn lines(set: &LineSet) -> BTreeSet<usize> {

@@ -128,6 +128,17 @@ impl Bench {
         self.done_by(thread, Event::Host { pr, tm })
     }
 
+    /// A register of thread 0.
+    fn reg(&self, r: usize) -> u64 {
+        self.thread(0).live.gpr[r]
+    }
+
+    /// A place of thread 0's log: index, marks and value.
+    fn place(&self, n: usize) -> (u32, u8, u64) {
+        let e = self.thread(0).log[n];
+        (e.index, e.marks, e.value)
+    }
+
     fn thread(&self, n: usize) -> &Thread {
         &self.m.threads[n]
     }
@@ -146,6 +157,12 @@ impl Bench {
     /// Does an event that is to give 0.
     fn done_by(&mut self, thread: u8, e: Event) -> &mut Bench {
         assert_eq!(self.step(thread, e), answer::DONE, "{e:?}");
+        self
+    }
+
+    /// Puts a value into a register of thread 0.
+    fn with(&mut self, r: usize, value: u64) -> &mut Bench {
+        self.m.threads[0].live.gpr[r] = value;
         self
     }
 
@@ -215,6 +232,35 @@ const fn ld(rt: u8, index: u32) -> Event {
 const fn std(ra: u8, index: u32) -> Event {
     Event::Std { ra, index }
 }
+
+const fn lbz(rt: u8, address: u32) -> Event {
+    Event::Lbz { rt, address }
+}
+
+const fn lhz(rt: u8, address: u32) -> Event {
+    Event::Lhz { rt, address }
+}
+
+const fn lwz(rt: u8, address: u32) -> Event {
+    Event::Lwz { rt, address }
+}
+
+const fn stb(ra: u8, address: u32) -> Event {
+    Event::Stb { ra, address }
+}
+
+const fn sth(ra: u8, address: u32) -> Event {
+    Event::Sth { ra, address }
+}
+
+const fn stw(ra: u8, address: u32) -> Event {
+    Event::Stw { ra, address }
+}
+
+/// The loads and stores of 1, 2 and 4 bytes, each with its width.
+type Narrow = (u32, fn(u8, u32) -> Event);
+const LOADS: [Narrow; 3] = [(1, lbz), (2, lhz), (4, lwz)];
+const STORES: [Narrow; 3] = [(1, stb), (2, sth), (4, stw)];
 
 const fn tlbie(page: u32) -> Event {
     Event::Tlbie { page }

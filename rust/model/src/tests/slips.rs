@@ -1,4 +1,4 @@
-//! Rules S1 to S6: slips to keep out.
+//! Rules S1 to S7: slips to keep out.
 
 use super::*;
 
@@ -126,4 +126,21 @@ fn a_tlbie_is_held_against_lines_only_read() {
         let mut b = Bench::begun();
         b.done(e).privilege(1).done_by(1, hit).is(State::N);
     }
+}
+
+#[test]
+fn a_commit_leaves_the_bytes_that_were_not_stored() {
+    let mut b = Bench::fresh();
+    b.mem[5] = 0x1111_1111_1111_1111;
+    b.with(3, 0xAB).done(TBEGIN).done(stb(3, 43)).done(ld(4, 5));
+    assert_eq!(b.reg(4), 0x1111_11AB_1111_1111);
+    assert_eq!(b.place(0), (5, 0x10, 0x0000_00AB_0000_0000));
+    b.done(TEND);
+    assert_eq!(b.mem[5], 0x1111_11AB_1111_1111);
+    // Were the whole doubleword written, what memory has become would be lost.
+    let mut b = Bench::begun();
+    b.with(3, 0xAB).done(stb(3, 43));
+    b.mem[5] = u64::MAX;
+    b.done(TEND);
+    assert_eq!(b.mem[5], 0xFFFF_FFAB_FFFF_FFFF);
 }

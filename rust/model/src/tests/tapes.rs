@@ -78,13 +78,19 @@ pub(super) const KINDS_10_TO_17: [Bytes; 9] = [
 ];
 
 /// Edition two has not these.
-pub(super) const KINDS_FROM_18: [Bytes; 7] = [
+pub(super) const KINDS_FROM_18: [Bytes; 13] = [
     (Event::Rfid, [18, 0, 0, 0, 0]),
     (mtmsrd(1), [19, 0, 0, 0, 1]),
     (mtmsrd(2), [19, 0, 0, 0, 2]),
     (mtmsrd(4), [19, 0, 0, 0, 4]),
     (mtmsrd(8), [19, 0, 0, 0, 8]),
     (mtmsrd(15), [19, 0, 0, 0, 15]),
+    (lbz(C, 0), [20, C, 0, 0, 0]),
+    (lhz(C, 0), [21, C, 0, 0, 0]),
+    (lwz(C, 0), [22, C, 0, 0, 0]),
+    (stb(A, 0), [23, 0, A, 0, 0]),
+    (sth(A, 0), [24, 0, A, 0, 0]),
+    (stw(A, 0), [25, 0, A, 0, 0]),
     (tlbie(0), [26, 0, 0, 0, 0]),
 ];
 
@@ -121,6 +127,18 @@ fn bytes_of_an_index_and_an_immediate() {
         encode(1, tlbie(0x0102_0304)),
         [0xE3, 26, 1, 0, 0, 0, 0, 0, 1, 2, 3, 4, 0, 0, 0, 0]
     );
+    for (kind, (_, load)) in (20..).zip(LOADS) {
+        assert_eq!(
+            encode(1, load(2, 0x0102_0304)),
+            [0xE3, kind, 1, 2, 0, 0, 0, 0, 1, 2, 3, 4, 0, 0, 0, 0]
+        );
+    }
+    for (kind, (_, store)) in (23..).zip(STORES) {
+        assert_eq!(
+            encode(1, store(2, 0x0102_0304)),
+            [0xE3, kind, 1, 0, 2, 0, 0, 0, 1, 2, 3, 4, 0, 0, 0, 0]
+        );
+    }
     assert_eq!(
         encode(1, addi(2, 3, 0x0506)),
         [0xE3, 14, 1, 2, 3, 0, 0, 0, 0, 0, 0, 0, 5, 6, 0, 0]

@@ -1,4 +1,4 @@
-//! Rules K1 to K26: the bench values.
+//! Rules K1 to K36: the bench values.
 
 use super::*;
 
@@ -336,4 +336,139 @@ fn k26_the_last_page() {
         b.mem.resize(len, 0);
         b.privilege(0).done(tlbie(last)).refused(tlbie(last + 1), 4);
     }
+}
+
+#[test]
+fn k27_stores_in_n() {
+    let mut b = Bench::fresh();
+    b.with(3, 0x1122_3344_5566_7788).done(stb(3, 8));
+    assert_eq!(b.mem[1], 0x8800_0000_0000_0000);
+    b.done(sth(3, 10));
+    assert_eq!(b.mem[1], 0x8800_7788_0000_0000);
+    b.done(stw(3, 12));
+    assert_eq!(b.mem[1], 0x8800_7788_5566_7788);
+    assert_eq!(b.mem.iter().filter(|&&word| word != 0).count(), 1);
+}
+
+#[test]
+fn k28_loads_in_n() {
+    let mut b = Bench::fresh();
+    b.mem[1] = 0x1122_3344_5566_7788;
+    for (e, number) in [
+        (lbz(3, 8), 0x11),
+        (lbz(3, 15), 0x88),
+        (lhz(3, 10), 0x3344),
+        (lwz(3, 12), 0x5566_7788),
+    ] {
+        b.with(3, u64::MAX).done(e);
+        assert_eq!(b.reg(3), number, "{e:?}");
+    }
+}
+
+#[test]
+fn k29_two_words_of_one_place() {
+    let mut b = Bench::begun();
+    b.with(3, 1).done(stw(3, 4));
+    assert_eq!(b.place(0), (0, 0x0F, 1));
+    b.with(4, 2).done(stw(4, 0));
+    assert_eq!(b.place(0), (0, 0xFF, 0x0000_0002_0000_0001));
+    assert_eq!(b.thread(0).count, 1);
+}
+
+#[test]
+fn k30_the_log_over_memory() {
+    let mut b = Bench::fresh();
+    b.mem[2] = 0x1111_1111_1111_1111;
+    b.with(3, 0xABCD)
+        .done(TBEGIN)
+        .done(sth(3, 18))
+        .done(ld(4, 2));
+    assert_eq!(b.reg(4), 0x1111_ABCD_1111_1111);
+    let t = b.thread(0);
+    assert!(t.reads.contains(0) && t.writes.contains(0) && t.footprint() == 1);
+    for (e, number) in [
+        (lbz(4, 18), 0xAB),
+        (lwz(4, 16), 0x1111_ABCD),
+        (lwz(4, 20), 0x1111_1111),
+    ] {
+        b.done(e);
+        assert_eq!(b.reg(4), number, "{e:?}");
+    }
+}
+
+#[test]
+fn k31_half_a_doubleword_is_committed() {
+    let mut b = Bench::fresh();
+    b.mem[0] = 0xAAAA_AAAA_0000_0000;
+    b.with(3, 7).done(TBEGIN).done(stw(3, 4)).done(TEND);
+    assert_eq!(b.mem[0], 0xAAAA_AAAA_0000_0007);
+}
+
+#[test]
+fn k32_number_4() {
+    let mut b = Bench::fresh();
+    b.refused(lhz(3, 1), 4).refused(lwz(3, 2), 4);
+    b.refused(stw(3, 6), 4);
+    b.mem.resize(16, 0);
+    b.done(lbz(3, 127)).refused(lbz(3, 128), 4);
+    b.done(stw(3, 124)).refused(stw(3, 128), 4);
+    b.refused(ld(3, 16), 4).done(lbz(3, 16));
+}
+
+#[test]
+fn k33_a_conflict_by_line() {
+    for (address, state) in [(127, State::N), (128, State::T)] {
+        let mut b = Bench::begun();
+        b.done(lbz(3, 0)).done_by(1, stb(3, address)).is(state);
+        if state == State::N {
+            assert_eq!(b.thread(0).texasr, 0x0008_0000_1800_0001);
+        }
+    }
+}
+
+#[test]
+fn k34_a_byte_in_s() {
+    let mut b = Bench::fresh();
+    b.with(3, 0xFF).done(TBEGIN).done(stb(3, 0)).done(TSUSPEND);
+    b.done(lbz(4, 0));
+    assert_eq!(b.reg(4), 0xFF);
+    b.gives(stb(3, 9), 21);
+    assert_eq!(b.thread(0).texasr, 0x0010_0000_9C00_0001);
+    assert_eq!((b.mem[0], b.mem[1]), (0, 0x00FF_0000_0000_0000));
+}
+
+#[test]
+fn k35_the_65th_place() {
+    let mut b = Bench::begun();
+    for address in (0..=504).step_by(8) {
+        b.done(stb(3, address));
+    }
+    assert_eq!(b.thread(0).count, 64);
+    b.done(stb(3, 505));
+    assert_eq!((b.thread(0).count, b.place(63).1), (64, 0xC0));
+    b.gives(stb(3, 512), 20);
+    // The thread's own event, so exact is 1 (rule F4).
+    assert_eq!(b.thread(0).texasr, 0x0020_0000_1C00_0001);
+}
+
+/// Thread 0 up to its tend.: a lock of 4 bytes is read, a counter beside it counted.
+fn counted() -> Bench {
+    let mut b = Bench::begun();
+    b.done(lwz(4, 0)).done(lwz(5, 4));
+    assert_eq!(b.reg(4), 0);
+    b.done(addi(5, 5, 1)).done(stw(5, 4));
+    b
+}
+
+#[test]
+fn k36_a_lock_and_a_counter() {
+    let mut b = counted();
+    assert_eq!(b.place(0), (0, 0x0F, 1));
+    b.done(TEND);
+    assert_eq!(b.mem[0], 0x0000_0000_0000_0001);
+    let mut b = counted();
+    b.m.threads[1].live.gpr[6] = 1;
+    b.done_by(1, stw(6, 0)).is(State::N);
+    assert_eq!(b.thread(0).texasr, 0x0008_0000_1800_0001);
+    assert_eq!(b.mem[0], 0x0000_0001_0000_0000);
 }

@@ -144,9 +144,13 @@ fn refused_records(edition: Edition) -> Vec<(u8, [u8; 16])> {
         record[n] = byte;
         record
     };
-    let mut refused = vec![(8, with(1, 20)), (9, with(15, 1)), (9, with(12, 1))];
+    let mut refused = vec![(8, with(1, 27)), (9, with(15, 1)), (9, with(12, 1))];
     refused.extend(match edition {
-        Edition::Two => vec![(7, with(0, 4)), (7, STD_IN_THREE), (8, with(1, 18))],
+        Edition::Two => {
+            let later = (18..=26).map(|kind| (8, with(1, kind)));
+            let others = [(7, with(0, 4)), (7, STD_IN_THREE)];
+            later.chain(others).collect()
+        }
         Edition::Three => vec![
             (3, with(2, 4)),
             (7, STD_IN_TWO),
@@ -155,6 +159,12 @@ fn refused_records(edition: Edition) -> Vec<(u8, [u8; 16])> {
             (8, encode(3, Event::Rfid)),
             (8, encode(0, mtmsrd(15))),
             (8, encode(0, tlbie(1))),
+            (8, encode(1, lbz(3, 9))),
+            (8, encode(1, lhz(3, 8))),
+            (8, encode(2, lwz(3, 8))),
+            (8, encode(2, stb(3, 9))),
+            (8, encode(3, sth(3, 8))),
+            (8, encode(3, stw(3, 8))),
             (3, encode(4, Event::Rfid)),
         ],
     });
@@ -185,7 +195,7 @@ fn the_reader_s_number_comes_before_the_writer_s() {
     let mut record = STD_IN_THREE;
     record[2] = 4;
     assert_eq!(convert(Edition::Three, &record), Err((3, 0)));
-    for (n, byte, number) in [(15, 1, 9), (1, 20, 8), (0, 4, 7)] {
+    for (n, byte, number) in [(15, 1, 9), (1, 27, 8), (0, 4, 7)] {
         record[n] = byte;
         assert_eq!(convert(Edition::Three, &record), Err((number, 0)));
     }

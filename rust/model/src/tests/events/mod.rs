@@ -1,7 +1,8 @@
-//! Rules E1 to E19, E26 and A0 to A6: each rule once, by hand.
+//! Rules E1 to E26 and A0 to A7: each rule once, by hand.
 
 mod aborts;
 mod access;
+mod bytes;
 mod conflicts;
 mod interrupts;
 mod pages;

@@ -1,16 +1,18 @@
-//! The sentences of rules A0 to A6, on threads in plain values.
+//! The sentences of rules A0 to A7, on threads in plain values.
 
 use super::plain::Plain;
 use super::rules::own_failure;
 use crate::{Event, State};
 
 pub fn access(threads: &mut [Plain], mem: &mut [u64], me: usize, e: Event, cia: u64) -> u8 {
-    let (store, r, index) = match e {
-        Event::Ld { rt, index } => (false, rt, index),
-        Event::Std { ra, index } => (true, ra, index),
-        _ => unreachable!(),
-    };
-    let line = index / 16;
+    let Access {
+        store,
+        r,
+        at,
+        width,
+    } = Access::of(e).expect("an access");
+    let index = at / 8;
+    let line = index as u32 / 16;
     let mut number = 0;
     // A1
     if overflows(&threads[me], store, index) {
@@ -24,11 +26,56 @@ pub fn access(threads: &mut [Plain], mem: &mut [u64], me: usize, e: Event, cia: 
     fail_others(threads, me, store, line);
     // A4
     if store {
-        store_doubleword(&mut threads[me], mem, r, index);
+        store_bytes(&mut threads[me], mem, r, at, width);
     } else {
-        load_doubleword(&mut threads[me], mem, r, index);
+        load_bytes(&mut threads[me], mem, r, at, width);
     }
     number
+}
+
+/// A load or a store with its register: so many bytes from a byte address on.
+pub struct Access {
+    pub store: bool,
+    pub r: u8,
+    /// A doubleword's index names its first byte, which may be past all addresses.
+    pub at: u64,
+    pub width: u64,
+}
+
+impl Access {
+    pub fn of(e: Event) -> Option<Access> {
+        let (store, r, at, width) = match e {
+            Event::Ld { rt, index } => (false, rt, 8 * u64::from(index), 8),
+            Event::Lbz { rt, address } => (false, rt, u64::from(address), 1),
+            Event::Lhz { rt, address } => (false, rt, u64::from(address), 2),
+            Event::Lwz { rt, address } => (false, rt, u64::from(address), 4),
+            Event::Std { ra, index } => (true, ra, 8 * u64::from(index), 8),
+            Event::Stb { ra, address } => (true, ra, u64::from(address), 1),
+            Event::Sth { ra, address } => (true, ra, u64::from(address), 2),
+            Event::Stw { ra, address } => (true, ra, u64::from(address), 4),
+            _ => return None,
+        };
+        let access = Access {
+            store,
+            r,
+            at,
+            width,
+        };
+        Some(access)
+    }
+}
+
+/// A byte of memory.
+fn byte_of(mem: &[u64], at: u64) -> u8 {
+    mem[(at / 8) as usize].to_be_bytes()[(at % 8) as usize]
+}
+
+/// Replaces one byte of memory.
+pub fn put_byte(mem: &mut [u64], at: u64, byte: u8) {
+    let doubleword = &mut mem[(at / 8) as usize];
+    let mut bytes = doubleword.to_be_bytes();
+    bytes[(at % 8) as usize] = byte;
+    *doubleword = u64::from_be_bytes(bytes);
 }
 
 /// Event 26: in T disallowed, else A6 and the thread's own transaction.
@@ -55,13 +102,13 @@ pub fn tlbie(threads: &mut [Plain], me: usize, page: u32, cia: u64) -> u8 {
 }
 
 /// A1: the access needs a line or a place in the log that is not there.
-fn overflows(t: &Plain, store: bool, index: u32) -> bool {
+fn overflows(t: &Plain, store: bool, index: u64) -> bool {
     if t.state != State::T {
         return false;
     }
     let adds_line = store || !t.lower.rot;
-    let new_line = adds_line && !t.lines().contains(&(index / 16));
-    let new_place = store && t.logged(index).is_none();
+    let new_line = adds_line && !t.lines().contains(&(index as u32 / 16));
+    let new_place = store && t.logged(index as u32).is_none();
     new_line && t.lines().len() == 32 || new_place && t.log.len() == 64
 }
 
@@ -82,26 +129,37 @@ fn fail_others(threads: &mut [Plain], me: usize, store: bool, line: u32) {
     }
 }
 
-/// A4 for a store.
-fn store_doubleword(t: &mut Plain, mem: &mut [u64], ra: u8, index: u32) {
-    let value = t.live.gpr[ra as usize];
+/// A4 for a store: byte by byte, the last one is the register's lowest.
+fn store_bytes(t: &mut Plain, mem: &mut [u64], ra: u8, at: u64, width: u64) {
+    let register = t.live.gpr[ra as usize];
+    let bytes = (0..width).map(|n| (at + n, (register >> (8 * (width - 1 - n))) as u8));
     if t.state != State::T {
-        mem[index as usize] = value;
+        for (at, byte) in bytes {
+            put_byte(mem, at, byte);
+        }
         return;
     }
-    match t.logged(index) {
-        Some(i) => t.log[i].1 = value,
-        None => t.log.push((index, value)),
+    let index = (at / 8) as u32;
+    let place = t.logged(index).unwrap_or_else(|| {
+        t.log.push((index, [None; 8]));
+        t.log.len() - 1
+    });
+    for (at, byte) in bytes {
+        t.log[place].1[(at % 8) as usize] = Some(byte);
     }
     t.writes.insert(index / 16);
 }
 
-/// A4 for a load.
-fn load_doubleword(t: &mut Plain, mem: &[u64], rt: u8, index: u32) {
-    t.live.gpr[rt as usize] = match t.logged(index) {
-        Some(i) => t.log[i].1,
-        None => mem[index as usize],
-    };
+/// A4 for a load: each byte is the log's if it was stored there, else memory's.
+fn load_bytes(t: &mut Plain, mem: &[u64], rt: u8, at: u64, width: u64) {
+    let index = (at / 8) as u32;
+    let place = t.logged(index);
+    let mut number: u64 = 0;
+    for at in at..at + width {
+        let logged = place.and_then(|i| t.log[i].1[(at % 8) as usize]);
+        number = number << 8 | u64::from(logged.unwrap_or_else(|| byte_of(mem, at)));
+    }
+    t.live.gpr[rt as usize] = number;
     if t.state == State::T && !t.lower.rot {
         t.reads.insert(index / 16);
     }

@@ -1,5 +1,5 @@
-//! Rules E1 to E19, E26 and A0 to A6 once more, in plain values: sets
-//! of line numbers, a log that is a list, no words and no short cuts. It is
+//! Rules E1 to E26 and A0 to A7 once more, in plain values: sets of line
+//! numbers, a log that is a list of single bytes, no words and no short cuts. It is
 //! slow and follows the sentences; the real step must agree with it.
 
 mod access;

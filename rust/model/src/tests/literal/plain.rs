@@ -23,8 +23,11 @@ pub struct Plain {
     pub lower: Lower,
     pub reads: BTreeSet<u32>,
     pub writes: BTreeSet<u32>,
-    pub log: Vec<(u32, u64)>,
+    pub log: Vec<(u32, Bytes)>,
 }
+
+/// Eight bytes, byte 0 the highest; of a log place those that were stored.
+pub type Bytes = [Option<u8>; 8];
 
 /// The lower half of TEXASR in parts; `rest` is what no rule names.
 #[derive(Clone)]
@@ -92,6 +95,34 @@ fn set(lines: &BTreeSet<u32>) -> LineSet {
     LineSet(words)
 }
 
+/// The bytes of a log place that have a mark.
+fn stored(e: &Entry) -> Bytes {
+    let mut bytes = [None; 8];
+    for (k, byte) in e.value.to_be_bytes().into_iter().enumerate() {
+        let weight = 2u32.pow(7 - k as u32);
+        if u32::from(e.marks) / weight % 2 == 1 {
+            bytes[k] = Some(byte);
+        }
+    }
+    bytes
+}
+
+/// The log place with these bytes; those that were not stored are 0.
+fn entry(index: u32, bytes: &Bytes) -> Entry {
+    let (mut marks, mut value) = (0, 0);
+    for (k, byte) in bytes.iter().enumerate() {
+        if let Some(byte) = *byte {
+            marks += 2u8.pow(7 - k as u32);
+            value += u64::from(byte) * 2u64.pow(56 - 8 * k as u32);
+        }
+    }
+    Entry {
+        index,
+        marks,
+        value,
+    }
+}
+
 impl Plain {
     pub fn from(t: &Thread) -> Plain {
         Plain {
@@ -113,15 +144,15 @@ impl Plain {
             writes: lines(&t.writes),
             log: t.log[..t.count]
                 .iter()
-                .map(|e| (e.index, e.value))
+                .map(|e| (e.index, stored(e)))
                 .collect(),
         }
     }
 
     pub fn join(&self) -> Thread {
         let mut log = [Entry::ZERO; 64];
-        for (place, &(index, value)) in log.iter_mut().zip(&self.log) {
-            *place = Entry { index, value };
+        for (place, (index, bytes)) in log.iter_mut().zip(&self.log) {
+            *place = entry(*index, bytes);
         }
         Thread {
             live: self.live,

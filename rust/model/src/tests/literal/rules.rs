@@ -1,8 +1,8 @@
-//! The sentences of rules E1 to E19 and E26, on threads in plain values.
+//! The sentences of rules E1 to E26, on threads in plain values.
 
 use std::cmp::Ordering::{self, Equal, Greater, Less};
 
-use super::access::{access, tlbie};
+use super::access::{access, put_byte, tlbie, Access};
 use super::plain::{Lower, Plain};
 use crate::{Event, State};
 
@@ -28,10 +28,9 @@ fn registers_used(e: Event) -> Vec<u8> {
     match e {
         Event::Tabort { ra } | Event::Treclaim { ra } | Event::Mtspr { ra, .. } => vec![ra],
         Event::Tabortwc { ra, rb, .. } | Event::Tabortdc { ra, rb, .. } => vec![ra, rb],
-        Event::Mfspr { rt, .. } | Event::Ld { rt, .. } => vec![rt],
-        Event::Std { ra, .. } => vec![ra],
+        Event::Mfspr { rt, .. } => vec![rt],
         Event::Addi { rt, ra, .. } => vec![rt, ra],
-        _ => vec![],
+        _ => Access::of(e).map(|access| access.r).into_iter().collect(),
     }
 }
 
@@ -43,9 +42,9 @@ fn refuses(t: &Plain, len: usize, e: Event) -> Option<u8> {
         Event::Mtspr { spr, .. } | Event::Mfspr { spr, .. } => {
             ![26, 27, 128, 129, 130, 131].contains(&spr)
         }
-        Event::Ld { index, .. } | Event::Std { index, .. } => index as usize >= len,
         Event::Tlbie { page } => 512 * u128::from(page) >= len as u128,
-        _ => false,
+        _ => Access::of(e)
+            .is_some_and(|Access { at, width, .. }| at % width != 0 || at >= 8 * len as u64),
     };
     if big_register || big_field {
         return Some(4);
@@ -172,13 +171,13 @@ pub fn literal(threads: &mut [Plain], mem: &mut [u64], me: usize, e: Event) -> u
         Event::Trechkpt => trechkpt(t),
         Event::Mtspr { spr, ra } => mtspr(t, spr, ra),
         Event::Mfspr { rt, spr } => t.live.gpr[rt as usize] = mfspr(t, spr),
-        Event::Ld { .. } | Event::Std { .. } => return access(threads, mem, me, e, cia),
         Event::Addi { rt, ra, si } => t.live.gpr[rt as usize] = sum(or_zero(t, ra), si),
         Event::Disallowed => return disallowed(t, cia),
         Event::Interrupt => interrupt(t),
         Event::Host { pr, tm } => (t.pr, t.tm) = (pr, tm),
         Event::Rfid | Event::Mtmsrd { .. } => return comes_back(t, e, cia),
         Event::Tlbie { page } => return tlbie(threads, me, page, cia),
+        _ => return access(threads, mem, me, e, cia),
     }
     0
 }
@@ -212,8 +211,11 @@ fn tend(t: &mut Plain, mem: &mut [u64], a: bool) {
         return;
     }
     if a || t.lower.tl == 1 {
-        for &(i, v) in &t.log {
-            mem[i as usize] = v;
+        for (index, bytes) in &t.log {
+            let first = 8 * u64::from(*index);
+            for (at, byte) in (first..).zip(bytes) {
+                byte.iter().for_each(|&byte| put_byte(mem, at, byte));
+            }
         }
         t.lower.tl = 0;
         t.empty();

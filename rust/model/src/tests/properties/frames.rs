@@ -21,19 +21,40 @@ fn frames() {
 fn memory(s: &Stepped) {
     let (old, new) = s.own();
     match s.e {
-        Event::Std { ra, index } if old.state != State::T => {
-            let mut mem = s.before.mem.clone();
-            mem[index as usize] = old.live.gpr[ra as usize];
-            assert_eq!(s.after.mem, mem);
+        e if store(e).is_some() && old.state != State::T => {
+            let (ra, at, width) = store(e).expect("a store");
+            let mut bytes = bytes_of(&s.before.mem);
+            let register = old.live.gpr[ra as usize].to_be_bytes();
+            bytes[at..at + width].copy_from_slice(&register[8 - width..]);
+            assert_eq!(bytes_of(&s.after.mem), bytes);
         }
         Event::Tend { .. } if old.state == State::T && new.state == State::N => {
             for (i, (was, is)) in s.before.mem.iter().zip(&s.after.mem).enumerate() {
                 let logged = old.log[..old.count].iter().find(|e| e.index == i as u32);
-                assert_eq!(*is, logged.map_or(*was, |e| e.value));
+                let (was, is) = (was.to_be_bytes(), is.to_be_bytes());
+                for k in 0..8 {
+                    let stored = logged.filter(|e| e.marks << k & 0x80 != 0);
+                    assert_eq!(is[k], stored.map_or(was[k], |e| e.value.to_be_bytes()[k]));
+                }
             }
         }
         _ => assert_eq!(s.after.mem, s.before.mem),
     }
+}
+
+/// The register of a store, the address of its first byte and their number.
+fn store(e: Event) -> Option<(u8, usize, usize)> {
+    Some(match e {
+        Event::Std { ra, index } => (ra, 8 * index as usize, 8),
+        Event::Stb { ra, address } => (ra, address as usize, 1),
+        Event::Sth { ra, address } => (ra, address as usize, 2),
+        Event::Stw { ra, address } => (ra, address as usize, 4),
+        _ => return None,
+    })
+}
+
+fn bytes_of(mem: &[u64]) -> Vec<u8> {
+    mem.iter().flat_map(|word| word.to_be_bytes()).collect()
 }
 
 /// Only an access that is made, or a tlbie, touches other threads, and those with
@@ -42,7 +63,7 @@ fn other_threads(s: &Stepped) {
     for n in s.others() {
         let (old, new) = s.each(n);
         if old != new {
-            let touching = matches!(s.e.kind(), 12 | 13 | 26);
+            let touching = matches!(s.e.kind(), 12 | 13 | 20..=26);
             assert!(touching, "{:?}", s.e);
             assert!(old.is_live() && s.number != 20);
             failed_by_another(old, new);

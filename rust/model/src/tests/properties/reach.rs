@@ -4,7 +4,7 @@
 use std::collections::{BTreeMap, BTreeSet};
 
 use super::*;
-use crate::tape::KINDS;
+use crate::tape::LAST_KIND;
 use crate::Msr;
 
 #[test]
@@ -29,7 +29,7 @@ fn reach() {
 fn reach_of_what_is_asked() {
     let mut met = BTreeMap::<_, usize>::new();
     let mut rng = Rng::new(78);
-    for _ in 0..240_000 {
+    for _ in 0..360_000 {
         let s = Stepped::draw(&mut rng);
         if s.thread >= s.before.m.count || s.before.thread(s.thread).pr {
             continue;
@@ -79,8 +79,14 @@ impl Seen {
         self.note(format!("kind {kind} in {}: {number}", class(t)));
         let done_in_t = number == 0 && t.state == State::T;
         match s.e {
-            Event::Ld { index, .. } => self.access(s, "ld", index),
-            Event::Std { index, .. } => self.access(s, "std", index),
+            Event::Ld { index, .. } => self.access(s, "ld", index, 0xFF),
+            Event::Std { index, .. } => self.access(s, "std", index, 0xFF),
+            Event::Lbz { address, .. } => self.narrow(s, "lbz", address, 1),
+            Event::Lhz { address, .. } => self.narrow(s, "lhz", address, 2),
+            Event::Lwz { address, .. } => self.narrow(s, "lwz", address, 4),
+            Event::Stb { address, .. } => self.narrow(s, "stb", address, 1),
+            Event::Sth { address, .. } => self.narrow(s, "sth", address, 2),
+            Event::Stw { address, .. } => self.narrow(s, "stw", address, 4),
             Event::Tlbie { page } if matches!(number, 0 | 21) => self.tlbie(s, page),
             Event::Tbegin { r } if done_in_t => {
                 self.note(format!("nested to {}", after.level()));
@@ -90,13 +96,51 @@ impl Seen {
                 self.note(format!("too deep, rot {}, R {r}", t.rot()));
             }
             Event::Tend { .. } if done_in_t => {
+                if after.state == State::N && t.log[..t.count].iter().any(|e| e.marks != 0xFF) {
+                    self.note("tend of a doubleword stored in part");
+                }
                 self.note(format!("tend to {:?}, rot {}", after.state, t.rot()));
             }
             _ => {}
         }
     }
 
-    fn access(&mut self, s: &Stepped, name: &str, index: u32) {
+    /// An access of some bytes at an address that may be no right one.
+    fn narrow(&mut self, s: &Stepped, name: &str, address: u32, width: u32) {
+        let end = 8 * s.before.mem.len() as u32;
+        if address % width != 0 {
+            let past = address >= end;
+            self.note(format!("{name} at no multiple, past the end {past}"));
+            return;
+        }
+        for (at, what) in [(end.wrapping_sub(width), "last"), (end, "first past")] {
+            if address == at {
+                self.note(format!("{name} at the {what} address"));
+            }
+        }
+        let marks = (0xFF >> (8 - width) << (8 - width - address % 8)) as u8;
+        self.access(s, name, address / 8, marks);
+        if answer::is_done(s.number) {
+            self.note(format!("{name} at byte {}", address % 8));
+        }
+    }
+
+    /// How an access meets the bytes that its doubleword has in the log.
+    fn meets_marks(&mut self, s: &Stepped, name: &str, index: u32, marks: u8) {
+        let t = s.before.thread(s.thread);
+        let logged = t.log[..t.count].iter().find(|e| e.index == index);
+        let Some(stored) = logged.map(|e| e.marks).filter(|_| t.is_live()) else {
+            return;
+        };
+        let how = match (stored & marks, marks & !stored) {
+            (0, _) => "beside what is stored",
+            (_, 0) => "within what is stored",
+            _ => "across what is stored",
+        };
+        self.note(format!("{name} in {} {how}", class(t)));
+    }
+
+    fn access(&mut self, s: &Stepped, name: &str, index: u32, marks: u8) {
         if index as usize >= s.before.mem.len() || !answer::is_done(s.number) {
             return;
         }
@@ -104,6 +148,7 @@ impl Seen {
             self.overflow(s, name, index as usize / 16);
         } else {
             self.access_made(s, name, index);
+            self.meets_marks(s, name, index, marks);
             self.victims(s, name);
         }
     }
@@ -193,7 +238,7 @@ const STATES: [&str; 4] = ["N", "T", "S live", "S doomed"];
 const LIVE: [&str; 2] = ["T", "S live"];
 
 /// Answers that a kind has in a state besides that of `of_kind`.
-const OTHER_ANSWERS: [(u8, &str, u8); 15] = [
+const OTHER_ANSWERS: [(u8, &str, u8); 24] = [
     (1, "T", 20),
     (4, "T", 20),
     (5, "T", 20),
@@ -209,9 +254,18 @@ const OTHER_ANSWERS: [(u8, &str, u8); 15] = [
     (19, "S doomed", 20),
     (26, "S live", 21),
     (26, "S live", 4),
+    (20, "T", 20),
+    (21, "T", 20),
+    (22, "T", 20),
+    (23, "T", 20),
+    (24, "T", 20),
+    (25, "T", 20),
+    (23, "S live", 21),
+    (24, "S live", 21),
+    (25, "S live", 21),
 ];
 
-const SPECIAL: [&str; 38] = [
+const SPECIAL: [&str; 39] = [
     "std overflow: lines false, places true",
     "std overflow: lines true, places true",
     "ld at 32: own line false, rot true",
@@ -250,23 +304,34 @@ const SPECIAL: [&str; 38] = [
     "tlbie of lines only read by another",
     "tlbie spares a ROT of own",
     "tlbie spares a ROT of another",
+    "tend of a doubleword stored in part",
 ];
 
 /// All that is to be seen often enough.
 fn wanted() -> Vec<String> {
     let answers = [0, 20, 21, 3, 4, 5, 11, 12, 13].map(|number| format!("answer {number}"));
-    let kinds = KINDS
-        .into_iter()
-        .flat_map(|kind| STATES.map(|state| of_kind(kind, state)));
+    let kinds = (1..=LAST_KIND).flat_map(|kind| STATES.map(|state| of_kind(kind, state)));
     let others =
         OTHER_ANSWERS.map(|(kind, state, number)| format!("kind {kind} in {state}: {number}"));
     let levels = [2, 3, MAX_LEVEL].map(|level| format!("nested to {level}"));
     let accesses = ["ld", "std"].into_iter().flat_map(of_access);
+    let narrow = [
+        ("lbz", 1),
+        ("stb", 1),
+        ("lhz", 2),
+        ("sth", 2),
+        ("lwz", 4),
+        ("stw", 4),
+    ];
+    let narrow = narrow
+        .into_iter()
+        .flat_map(|(name, width)| of_narrow(name, width));
     let mut wanted = answers.to_vec();
     wanted.extend(kinds.flatten());
     wanted.extend(others);
     wanted.extend(levels);
     wanted.extend(accesses);
+    wanted.extend(narrow);
     wanted.extend(victims_of_a_tlbie());
     wanted.extend(SPECIAL.map(String::from));
     wanted
@@ -294,6 +359,33 @@ fn victims_of_a_tlbie() -> impl Iterator<Item = String> {
     ["N", "S live", "S doomed"]
         .into_iter()
         .flat_map(|state| LIVE.map(|victim| format!("tlbie in {state} fails {victim}")))
+}
+
+/// Each place in a doubleword, each way to meet what is stored of it, and the
+/// addresses at the end of the memory and those that are no multiples.
+fn of_narrow(name: &str, width: usize) -> Vec<String> {
+    let mut wanted: Vec<_> = (0..8)
+        .step_by(width)
+        .map(|k| format!("{name} at byte {k}"))
+        .collect();
+    for state in LIVE {
+        wanted.push(format!("{name} in {state} beside what is stored"));
+        wanted.push(format!("{name} in {state} within what is stored"));
+        if width > 1 {
+            wanted.push(format!("{name} in {state} across what is stored"));
+        }
+    }
+    for what in ["last", "first past"] {
+        wanted.push(format!("{name} at the {what} address"));
+    }
+    if width > 1 {
+        let past = [false, true].map(|past| format!("{name} at no multiple, past the end {past}"));
+        wanted.extend(past);
+    }
+    wanted.push(format!("{name} overflow: lines true, places false"));
+    let victims = LIVE.map(|victim| format!("{name} in T fails {victim}"));
+    wanted.extend(victims);
+    wanted
 }
 
 fn of_access(name: &str) -> Vec<String> {

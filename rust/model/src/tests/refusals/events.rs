@@ -17,7 +17,12 @@ fn with_operand(n: u8) -> Vec<Event> {
         addi(n, 0, 0),
         addi(0, n, 0),
     ];
-    [&words[..], &doublewords, &others].concat()
+    let narrow = LOADS
+        .into_iter()
+        .chain(STORES)
+        .map(|(_, access)| access(n, 0));
+    let wide = words.into_iter().chain(doublewords).chain(others);
+    wide.chain(narrow).collect()
 }
 
 /// Each event that has an operand out of range, which is alone in that.
@@ -33,7 +38,22 @@ fn operands_out_of_range() -> Vec<Event> {
     // 512 x page is 0 or small, modulo 2^32, in some of these.
     let pages = [8, 9, 1 << 23, (1 << 23) + 1, 1 << 31, u32::MAX].map(tlbie);
     let fields = registers.chain(fields).chain(sprs);
-    fields.chain(indices).chain(pages).collect()
+    let accesses = indices.chain(addresses_out_of_range(32_768));
+    fields.chain(accesses).chain(pages).collect()
+}
+
+/// Each narrow access with an address that is no multiple of its width, or that is
+/// not below this end of the memory, which is a multiple of 8; or both.
+fn addresses_out_of_range(end: u32) -> Vec<Event> {
+    let mut refused = Vec::new();
+    for (width, access) in LOADS.into_iter().chain(STORES) {
+        let within = [0, 8, end / 2, end - 8].into_iter();
+        let odd = within.flat_map(|from| (from..from + 8).filter(|at| at % width != 0));
+        let past = [0, 1, 2, 4, 7, 8, 1 << 16].map(|more| end + more);
+        let last = [1 << 31, u32::MAX - 3, u32::MAX - 1, u32::MAX];
+        refused.extend(odd.chain(past).chain(last).map(|at| access(0, at)));
+    }
+    refused
 }
 
 #[test]
@@ -73,6 +93,18 @@ fn number_4_by_the_memory_that_is_lent() {
     b.mem.resize(48, 0);
     b.refused(ld(0, 48), 4).refused(std(0, 48), 4);
     b.done(ld(0, 47)).done(std(0, 47));
+    // An address by 8 x its length.
+    for end in [128, 256, 384, 32_760] {
+        let mut b = Bench::fresh();
+        b.mem.resize(end as usize / 8 / 16 * 16, 0);
+        let end = 8 * b.mem.len() as u32;
+        for e in addresses_out_of_range(end) {
+            b.refused(e, 4);
+        }
+        for (width, access) in LOADS.into_iter().chain(STORES) {
+            b.done(access(0, 0)).done(access(0, end - width));
+        }
+    }
     // A page by its first doubleword.
     for (len, pages) in [(16, 1), (512, 1), (528, 2), (1008, 2), (1024, 2), (1040, 3)] {
         let mut b = Bench::privileged();

@@ -7,11 +7,11 @@ mod records;
 
 use super::*;
 use crate::machine::texasr;
-use crate::tape::KINDS;
+use crate::tape::LAST_KIND;
 use crate::{read, write};
 
 /// One event of each kind with operands in range.
-const EACH: [Event; 20] = [
+const EACH: [Event; 26] = [
     Event::Tbegin { r: true },
     Event::Tend { a: true },
     Event::Tabort { ra: 31 },
@@ -56,6 +56,12 @@ const EACH: [Event; 20] = [
         tm: true,
         pr: true,
     },
+    lbz(31, 32767),
+    lhz(31, 32766),
+    lwz(31, 32764),
+    stb(31, 32767),
+    sth(31, 32766),
+    stw(31, 32764),
     Event::Tlbie { page: 7 },
 ];
 
