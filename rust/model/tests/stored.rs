@@ -262,7 +262,7 @@ fn tapes() -> Vec<(PathBuf, Vec<u8>, String)> {
 #[test]
 fn texts_beside_the_tapes_agree() {
     let tapes = tapes();
-    assert_eq!(tapes.len(), 13);
+    assert_eq!(tapes.len(), 14);
     for (path, tape, text) in tapes {
         let given = program(&tape);
         let given: Vec<&str> = given.lines().collect();
@@ -341,5 +341,5 @@ fn tapes_are_refused_as_the_wrong_edition() {
         assert_eq!(edition.other().convert(&tape, &mut buf), (7, 0), "{path:?}");
         mixed_up += 1;
     }
-    assert_eq!(mixed_up, 10);
+    assert_eq!(mixed_up, 11);
 }
