@@ -122,8 +122,7 @@ fn records(tape: &[u8]) -> impl Iterator<Item = &[u8; RECORD]> {
 /// The events of a tape whose records have all been judged.
 #[inline(always)]
 fn events(tape: &[u8]) -> impl Iterator<Item = (u8, Event)> + '_ {
-    // None is left out: each has a kind.
-    records(tape).filter_map(tape::judged)
+    records(tape).map(tape::judged)
 }
 
 /// What the program writes for these bytes on its standard input.

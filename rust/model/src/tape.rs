@@ -92,7 +92,7 @@ pub fn read(record: &[u8]) -> Result<(u8, Event), u8> {
 #[inline]
 fn decode(record: &[u8; RECORD]) -> Result<(u8, Event), u8> {
     judge(record)?;
-    judged(record).ok_or(answer::KIND)
+    Ok(judged(record))
 }
 
 /// Whether a record of the right length is one; else 7, 8 or 9.
@@ -111,10 +111,9 @@ pub(crate) fn judge(record: &[u8; RECORD]) -> Result<(), u8> {
     Ok(())
 }
 
-/// The thread and the event of a record that has been judged; none only if no
-/// event has its kind.
+/// The thread and the event of a record that has been judged.
 #[inline(always)]
-pub(crate) fn judged(record: &[u8; RECORD]) -> Option<(u8, Event)> {
+pub(crate) fn judged(record: &[u8; RECORD]) -> (u8, Event) {
     let &[_, kind, thread, x, ra, rb, flags, _, i0, i1, i2, i3, s0, s1, _, _] = record;
     let fields = Fields {
         kind,
@@ -126,7 +125,7 @@ pub(crate) fn judged(record: &[u8; RECORD]) -> Option<(u8, Event)> {
         index: u32::from_be_bytes([i0, i1, i2, i3]),
         si: u16::from_be_bytes([s0, s1]),
     };
-    Some((thread, fields.event()?))
+    (thread, fields.of_kind())
 }
 
 /// Writes one record into the first 16 bytes of the buffer and gives 0; a
@@ -198,11 +197,18 @@ impl Fields {
     /// kind. Fields that the kind does not use are not looked at.
     #[inline]
     pub fn event(self) -> Option<Event> {
+        matches!(self.kind, 1..=LAST_KIND).then(|| self.of_kind())
+    }
+
+    /// As [`Fields::event`], for a kind from 1 to 26. It gives an event whatever
+    /// the kind is, so that a run has no case for none.
+    #[inline(always)]
+    fn of_kind(self) -> Event {
         let Fields { x, ra, rb, .. } = self;
         let Fields { index, si, .. } = self;
         let one = self.flags & 1 != 0;
         let two = self.flags & 2 != 0;
-        Some(match self.kind {
+        match self.kind {
             1 => Event::Tbegin { r: one },
             2 => Event::Tend { a: one },
             3 => Event::Tabort { ra },
@@ -241,8 +247,7 @@ impl Fields {
             23 => Event::Stb { ra, address: index },
             24 => Event::Sth { ra, address: index },
             25 => Event::Stw { ra, address: index },
-            26 => Event::Tlbie { page: index },
-            _ => return None,
-        })
+            _ => Event::Tlbie { page: index },
+        }
     }
 }

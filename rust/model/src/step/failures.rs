@@ -1,7 +1,7 @@
 //! Failure: its causes, recording and handling.
 
 use super::Went;
-use crate::machine::{texasr, Entry, LineSet, State, Thread};
+use crate::machine::{texasr, LineSet, State, Thread};
 
 /// Causes of failure: the upper half of TEXASR.
 pub(super) mod cause {
@@ -22,7 +22,9 @@ impl Thread {
         self.reads = LineSet::EMPTY;
         self.writes = LineSet::EMPTY;
         for e in self.log.iter_mut().take(self.count) {
-            *e = Entry::ZERO;
+            // Field by field: a place at once becomes a call that clears bytes, which
+            // is slower for the few places that most logs have.
+            (e.index, e.marks, e.value) = (0, 0, 0);
         }
         self.count = 0;
     }
