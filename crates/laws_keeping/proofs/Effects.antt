@@ -16,15 +16,14 @@ use Rattle.transaction.specs.Transaction as transaction
 use Rattle.transaction.specs.declared.Cause.{Cause}
 use Rattle.transaction.specs.declared.Transaction.{Transaction}
 use Rattle.transaction.specs.declared.Write.{Write}
-use Rattle.transaction.specs.declared.Write.the-variants.{Unwritten, Doubleword, Log}
+use Rattle.transaction.specs.declared.Write.the-variants.{Unwritten, Bytes, Log}
 use Rattle.transaction.proofs.Laws.{commit-length}
 use Rattle.event.specs.Rows.{row, tm-spr, srr}
 use Rattle.event.specs.Event.{trechkpt-kind, mtspr-kind, kind, operands-right, tm-instruction}
 use Rattle.event.specs.declared.Event.{Event}
 use Rattle.event.specs.declared.Event.the-variants.{Trechkpt, Mtspr}
-use Rattle.event.proofs.Laws.{ld-in, std-in}
 use Rattle.power_common.specs.Common.{passes, cr0-from-state, put-gpr, own-recording, fails, dooms, cr0-only, leveled, abort-cause}
-use Rattle.power_access.specs.Access.{tracked, ld-overflows, std-overflows, takes, joins, ld, logs, meets-own, std, tlbie}
+use Rattle.power_access.specs.Access.{tracked, ld-overflows, std-overflows, takes, joins, load, logs, meets-own, store, tlbie}
 use Rattle.power_aborts.specs.Aborts.{tabort, tabort-if}
 use Rattle.power_begins.specs.Begins.{begins, tbegin, commits, tend, moves, tsuspend, tresume, tsr}
 use Rattle.power_reclaims.specs.Reclaims.{check-field, tcheck, treclaim, trechkpt}
@@ -56,7 +55,7 @@ use Rattle.laws_keeping.proofs.Anew.{ts-small, next-aligned, up, down, 
 pub written-length : (w : Write) (x : Transaction) (mem : List ℕ) → length (transaction.written w x mem) ≡ length mem
 unfolding transaction.written
 written-length Unwritten x mem = refl
-written-length (Doubleword i v) x mem = simp length-set
+written-length (Bytes i m v) x mem = simp length-set
 written-length Log x mem = commit-length mem _ _
 
 -- an SPR that mtspr names is SRR0 or SRR1, unless it is a failure register
@@ -245,31 +244,31 @@ module _ (t : Thread) (len : ℕ) where
         with-held _ r (join-footprint _ i (r .holds .shape) below c (r .rules .1 .small))
         (record { shape = join-shaped _ i (r .holds .shape); held = join-held _ i len (r .holds .shape) inside below (r .holds .held) })
 
-    ld-fine : (s : State) (rt : ℕ) (mem : List ℕ) → Right s t len → Does len (ld s t rt i mem)
-    unfolding ld
-    ld-fine N rt mem r = gpr-fine rt _ r
-    ld-fine T rt mem r =
+    load-fine : (s : State) (rt j w : ℕ) (mem : List ℕ) → Right s t len → Does len (load s t rt i j w mem)
+    unfolding load
+    load-fine N rt j w mem r = gpr-fine rt _ r
+    load-fine T rt j w mem r =
         fork (Does len) (ld-overflows t i) (λ p. fails-fine t len _ r)
-        (λ p. fork (λ (u : Thread). Fine len (takes u rt i mem)) (tracked t)
+        (λ p. fork (λ (u : Thread). Fine len (takes u rt i j w mem)) (tracked t)
         (λ q. valid (passed (with-gpr (joined r (simp q at p)) rt _)))
         (λ q. gpr-fine rt _ r))
-    ld-fine S rt mem r = gpr-fine rt _ r
+    load-fine S rt j w mem r = gpr-fine rt _ r
 
-    logs-fine : (v : ℕ) → Right T t len → Does len (logs t v i)
+    logs-fine : (m v : ℕ) → 0 < m → Right T t len → Does len (logs t i m v)
     unfolding logs
-    logs-fine v r =
+    logs-fine m v z r =
         fork (Does len) (std-overflows t i) (λ p. fails-fine t len _ r)
         (λ p. let q = neither _ _ p in
         valid
         (passed
-        (with-held _ r (store-footprint _ i v (r .holds .shape) below (q .0) (r .rules .1 .small))
-        (record { shape = store-shaped _ i v (r .holds .shape); held = store-held _ i v len (r .holds .shape) inside below (q .1) (r .holds .held) }))))
+        (with-held _ r (store-footprint _ i m v (r .holds .shape) below (q .0) (r .rules .1 .small))
+        (record { shape = store-shaped _ i m v (r .holds .shape); held = store-held _ i m v len (r .holds .shape) z inside below (q .1) (r .holds .held) }))))
 
-    std-fine : (s : State) (v : ℕ) → Right s t len → Does len (std s t v i)
-    unfolding std
-    std-fine N v r = valid (passed r)
-    std-fine T v r = logs-fine v r
-    std-fine S v r = meets-own-fine t len _ _ _ r
+    store-fine : (s : State) (m v : ℕ) → 0 < m → Right s t len → Does len (store s t i m v)
+    unfolding store
+    store-fine N m v z r = valid (passed r)
+    store-fine T m v z r = logs-fine m v z r
+    store-fine S m v z r = meets-own-fine t len _ _ _ r
 
   tlbie-fine : (s : State) (p : ℕ) → Right s t len → Does len (tlbie s t p)
   unfolding tlbie
@@ -347,8 +346,8 @@ effect-keeps e t mem z h o q =
       treclaim = λ ra o q. treclaim-fine t _ ra r;
       trechkpt = λ o q. trechkpt-fine t _ _ _ (not-bad _ Trechkpt q) r;
       mtspr = λ spr ra o q. mtspr-fine t _ _ spr ra (named spr ra _ o) (not-bad _ (Mtspr spr ra) q) r;
-      ld = λ rt i o q. let l = ld-in rt i _ o .1 in ld-fine t _ i l (line-below i _ z l) _ rt mem r;
-      std = λ ra i o q. let l = std-in ra i _ o .1 in std-fine t _ i l (line-below i _ z l) _ _ r;
+      load = λ e rt i j w a o q. let l = a _ o .1 in load-fine t _ i l (line-below i _ z l) _ rt j w mem r;
+      store = λ e ra i m v a n o q. let l = a _ o .1 in store-fine t _ i l (line-below i _ z l) _ m _ n r;
       disallowed = λ o q. disallowed-fine t _ _ r;
       interrupt = λ o q. interrupt-fine t _ _ r;
       host = λ pr tm o q. host-fine t _ pr tm r;

@@ -13,6 +13,10 @@ use Rattle.base.specs.Limits.{line-size, lines, words, most-footprint, most-pla
 use Rattle.base.specs.Below.{all-below, any-below}
 use Rattle.base.proofs.Below.{and-left, and-right, and-intro, all-at, all-from, any-at, any-false, any-false-at, any-witness}
 use Rattle.lines.specs.Lines as lineset
+use Rattle.lines.specs.Lines.{place}
+use Rattle.doubleword.specs.Doubleword.{byte, only-marked}
+use Rattle.doubleword.proofs.Laws.{merged-only}
+use lib.Bits.{bitOr, or-add-and, and-le-l}
 use Rattle.lines.specs.declared.LineSet.{LineSet}
 use Rattle.lines.proofs.Laws.{has-empty, has-with, length-with, footprint-with-new, footprint-with-new-write, footprint-with-old, footprint-with-old-write}
 use Rattle.transaction.specs.Transaction as transaction
@@ -20,8 +24,8 @@ use Rattle.transaction.specs.declared.Entry.{Entry}
 use Rattle.transaction.specs.declared.Found.{Found}
 use Rattle.transaction.specs.declared.Found.the-variants.{At, Absent}
 use Rattle.transaction.specs.declared.Transaction.{Transaction}
-use Rattle.transaction.proofs.Laws.{lookup-absent, store-place, store-count, store-is, store-other, store-place-below, store-count-most, store-there, store-index}
-use Rattle.machine.specs.Valid.{place-right, unused-zero, indices-inside, line-inside, lines-inside, unlike, distinct, logs-line, line-logged, writes-logged, held-right, no-line, holds-nothing}
+use Rattle.transaction.proofs.Laws.{lookup-absent, lookup-below, store-place, store-count, store-over, store-is, store-other, store-place-below, store-count-most, store-there, store-index}
+use Rattle.machine.specs.Valid.{place-right, unused-zero, indices-inside, line-inside, lines-inside, unlike, distinct, logs-line, line-logged, writes-logged, marked-right, marks-right, held-right, no-line, holds-nothing}
 use Rattle.machine.proofs.Laws.{unused-count}
 
 -- the arrays have their lengths
@@ -37,9 +41,9 @@ empty-shaped = record { reads = refl; writes = refl; log = refl }
 pub join-shaped : (x : Transaction) (i : ℕ) → Shaped x → Shaped (transaction.join x i)
 join-shaped x i s = record { reads = length-with (x .reads) (transaction.line i) ∙ s .reads; writes = s .writes; log = s .log }
 
-pub store-shaped : (x : Transaction) (i v : ℕ) → Shaped x → Shaped (transaction.store x i v)
-store-shaped x i v s =
-    subst Shaped (sym (store-is x (transaction.lookup x i) i v))
+pub store-shaped : (x : Transaction) (i ms v : ℕ) → Shaped x → Shaped (transaction.store x i ms v)
+store-shaped x i ms v s =
+    subst Shaped (sym (store-is x (transaction.lookup x i) i ms v))
     (record { reads = s .reads; writes = length-with (x .writes) (transaction.line i) ∙ s .writes; log = simp length-set (s .log) })
 
 -- the parts of what is held
@@ -49,11 +53,13 @@ pub record Held (x : Transaction) (len : ℕ) : Type 0 where
   pub touched : lines-inside x len ≡ true
   pub differ : distinct x ≡ true
   pub logged : writes-logged x ≡ true
+  pub marks : marks-right x ≡ true
 
 pub held-parts : (x : Transaction) (len : ℕ) → held-right x len ≡ true → Held x len
 unfolding held-right
 held-parts x len h =
-    let d = and-left _ (writes-logged x) h in
+    let w = and-left _ (marks-right x) h in
+    let d = and-left _ (writes-logged x) w in
     let l = and-left _ (distinct x) d in
     let i = and-left _ (lines-inside x len) l in
     record {
@@ -61,13 +67,14 @@ held-parts x len h =
       indices = and-right (unused-zero x) _ i;
       touched = and-right (unused-zero x && indices-inside x len) _ l;
       differ = and-right (unused-zero x && indices-inside x len && lines-inside x len) _ d;
-      logged = and-right (unused-zero x && indices-inside x len && lines-inside x len && distinct x) _ h;
+      logged = and-right (unused-zero x && indices-inside x len && lines-inside x len && distinct x) _ w;
+      marks = and-right (unused-zero x && indices-inside x len && lines-inside x len && distinct x && writes-logged x) _ h;
     }
 
 pub held-whole : (x : Transaction) (len : ℕ) → Held x len → held-right x len ≡ true
 unfolding held-right
 held-whole x len p =
-    and-intro _ _ (and-intro _ _ (and-intro _ _ (and-intro _ _ (p .unused) (p .indices)) (p .touched)) (p .differ)) (p .logged)
+    and-intro _ _ (and-intro _ _ (and-intro _ _ (and-intro _ _ (and-intro _ _ (p .unused) (p .indices)) (p .touched)) (p .differ)) (p .logged)) (p .marks)
 
 pub held-unused : (x : Transaction) (len : ℕ) → held-right x len ≡ true → unused-zero x ≡ true
 held-unused x len h = held-parts x len h .unused
@@ -97,10 +104,12 @@ no-line-empty s e h =
 unused-entry : (e : Entry) (n : ℕ) → place-right e n 0 ≡ true → e ≡ transaction.no-entry
 unfolding place-right
 unused-entry e n p =
-    let q : (eqb (e .index) 0 && eqb (e .value) 0) ≡ true = rw (le-ltb n 0 (omega arith)) at p in
-    let i : e .index ≡ 0 = eqb-true _ _ (and-left (eqb (e .index) 0) _ q) in
-    let v : e .value ≡ 0 = eqb-true _ _ (and-right (eqb (e .index) 0) _ q) in
-    λ j. record { index = i j; value = v j }
+    let q : (eqb (e .index) 0 && eqb (e .marks) 0 && eqb (e .value) 0) ≡ true = rw (le-ltb n 0 (omega arith)) at p in
+    let r = and-left (eqb (e .index) 0 && eqb (e .marks) 0) _ q in
+    let i : e .index ≡ 0 = eqb-true _ _ (and-left (eqb (e .index) 0) _ r) in
+    let b : e .marks ≡ 0 = eqb-true _ _ (and-right (eqb (e .index) 0) _ r) in
+    let v : e .value ≡ 0 = eqb-true _ _ (and-right (eqb (e .index) 0 && eqb (e .marks) 0) _ q) in
+    λ j. record { index = i j; marks = b j; value = v j }
 
 -- what holds nothing is empty
 pub nothing-is-empty : (x : Transaction) → Shaped x → unused-zero x ≡ true → holds-nothing x ≡ true → x ≡ transaction.empty
@@ -122,7 +131,7 @@ unfolding transaction.empty
 empty-touches m = simp has-empty
 
 pub empty-held : (len : ℕ) → held-right transaction.empty len ≡ true
-unfolding transaction.empty unused-zero place-right indices-inside lines-inside line-inside distinct writes-logged line-logged logs-line all-below any-below
+unfolding transaction.empty unused-zero place-right indices-inside lines-inside line-inside distinct writes-logged line-logged logs-line marks-right all-below any-below
 empty-held len =
     held-whole transaction.empty len (record {
       unused = refl;
@@ -130,6 +139,7 @@ empty-held len =
       touched = all-from (λ l. line-inside transaction.empty l len) lines (λ l h. rw empty-touches (or-true (ltb (l * line-size) len)));
       differ = refl;
       logged = all-from (line-logged transaction.empty) lines (λ l h. rw has-empty);
+      marks = refl;
     })
 
 -- ---- a line more
@@ -156,7 +166,7 @@ join-touches x i m s l = rw join-has (swap (lineset.has (x .reads) m) _ _)
     swap false b c = or-comm b c
 
 pub join-held : (x : Transaction) (i len : ℕ) → Shaped x → i < len → transaction.line i < lines → held-right x len ≡ true → held-right (transaction.join x i) len ≡ true
-unfolding unused-zero indices-inside distinct unlike writes-logged line-logged logs-line
+unfolding unused-zero indices-inside distinct unlike writes-logged line-logged logs-line marks-right
 join-held x i len s h l r =
     let p = held-parts x len r in
     held-whole (transaction.join x i) len (record {
@@ -165,26 +175,32 @@ join-held x i len s h l r =
       touched = more-inside x (transaction.join x i) i len h (λ m. join-touches x i m s l) (p .touched);
       differ = p .differ;
       logged = p .logged;
+      marks = p .marks;
     })
 
 -- ---- a store
 
 -- what the sets have after it
-pub store-has : (x : Transaction) (i v m : ℕ) → Shaped x → transaction.line i < lines
-    → lineset.has (transaction.store x i v .writes) m ≡ (lineset.has (x .writes) m || eqb m (transaction.line i))
-store-has x i v m s l = rw store-is (has-with (x .writes) (transaction.line i) m (omega arith))
+pub store-has : (x : Transaction) (i ms v m : ℕ) → Shaped x → transaction.line i < lines
+    → lineset.has (transaction.store x i ms v .writes) m ≡ (lineset.has (x .writes) m || eqb m (transaction.line i))
+store-has x i ms v m s l = rw store-is (has-with (x .writes) (transaction.line i) m (omega arith))
 
-pub store-reads : (x : Transaction) (i v : ℕ) → transaction.store x i v .reads ≡ x .reads
-store-reads x i v = simp store-is
+pub store-reads : (x : Transaction) (i ms v : ℕ) → transaction.store x i ms v .reads ≡ x .reads
+store-reads x i ms v = simp store-is
 
-pub store-touches : (x : Transaction) (i v m : ℕ) → Shaped x → transaction.line i < lines
-    → transaction.touches (transaction.store x i v) m ≡ (transaction.touches x m || eqb m (transaction.line i))
-store-touches x i v m s l = simp (store-reads, store-has x i v m s l, or-assoc)
+pub store-touches : (x : Transaction) (i ms v m : ℕ) → Shaped x → transaction.line i < lines
+    → transaction.touches (transaction.store x i ms v) m ≡ (transaction.touches x m || eqb m (transaction.line i))
+store-touches x i ms v m s l = simp (store-reads, store-has x i ms v m s l, or-assoc)
+
+-- no byte of an empty place is stored
+none-marked : only-marked 0 0 ≡ true
+unfolding only-marked byte place all-below
+none-marked = refl
 
 -- a used place is right, and a place that is right is so still where more are used
 place-used : (e : Entry) (n c : ℕ) → n < c → place-right e n c ≡ true
 unfolding place-right
-place-used e n c h = ap (λ (b : Bool). b || eqb (e .index) 0 && eqb (e .value) 0) (lt-ltb n c h)
+place-used e n c h = ap (λ (b : Bool). b || eqb (e .index) 0 && eqb (e .marks) 0 && eqb (e .value) 0) (lt-ltb n c h)
 
 place-more : (e : Entry) (n c d : ℕ) → c ≤ d → place-right e n c ≡ true → place-right e n d ≡ true
 unfolding place-right
@@ -194,7 +210,7 @@ place-more e n c d h p = go (ltb n c) refl
     go true q = place-used e n d (omega (arith, ltb-true n c q))
     go false q = rest (ltb n d) (rw q at p)
       where
-        rest : (b : Bool) → (eqb (e .index) 0 && eqb (e .value) 0) ≡ true → (b || eqb (e .index) 0 && eqb (e .value) 0) ≡ true
+        rest : (b : Bool) → (eqb (e .index) 0 && eqb (e .marks) 0 && eqb (e .value) 0) ≡ true → (b || eqb (e .index) 0 && eqb (e .marks) 0 && eqb (e .value) 0) ≡ true
         rest true z = refl
         rest false z = z
 
@@ -203,48 +219,52 @@ data Used (x : Transaction) (i n j : ℕ) : Type 0 where
   old : n < x .count → j ≡ transaction.entry (x .log) n .index → Used x i n j
   new : n ≡ x .count → j ≡ i → transaction.lookup x i ≡ Absent → Used x i n j
 
-module _ (x : Transaction) (i v : ℕ) (s : Shaped x) (u : unused-zero x ≡ true) (f : transaction.full x (transaction.lookup x i) ≡ false) where
-  count-is : transaction.store x i v .count ≡ store-count x (transaction.lookup x i)
+module _ (x : Transaction) (i ms v : ℕ) (s : Shaped x) (u : unused-zero x ≡ true) (f : transaction.full x (transaction.lookup x i) ≡ false) where
+  count-is : transaction.store x i ms v .count ≡ store-count x (transaction.lookup x i)
   count-is = simp store-is
 
-  count-grows : x .count ≤ transaction.store x i v .count
+  count-grows : x .count ≤ transaction.store x i ms v .count
   count-grows = rw count-is (go (transaction.lookup x i))
     where
       go : (g : Found) → x .count ≤ store-count x g
       go (At k) = omega arith
       go Absent = omega arith
 
-  kept : (n : ℕ) → n < x .count → transaction.entry (transaction.store x i v .log) n .index ≡ transaction.entry (x .log) n .index
-  kept = store-index x i v (s .log) (unused-count x u) f
+  kept : (n : ℕ) → n < x .count → transaction.entry (transaction.store x i ms v .log) n .index ≡ transaction.entry (x .log) n .index
+  kept = store-index x i ms v (s .log) (unused-count x u) f
 
-  there : transaction.entry (transaction.store x i v .log) (store-place x (transaction.lookup x i)) ≡ record { index = i; value = v }
-  there = store-there x i v (s .log) (unused-count x u) f
+  there : transaction.entry (transaction.store x i ms v .log) (store-place x (transaction.lookup x i)) ≡ transaction.stored (store-over x (transaction.lookup x i)) i ms v
+  there = store-there x i ms v (s .log) (unused-count x u) f
 
-  used : (n : ℕ) → n < transaction.store x i v .count → Used x i n (transaction.entry (transaction.store x i v .log) n .index)
+  there-index : transaction.entry (transaction.store x i ms v .log) (store-place x (transaction.lookup x i)) .index ≡ i
+  unfolding transaction.stored
+  there-index = ap (λ (e : Entry). e .index) there
+
+  used : (n : ℕ) → n < transaction.store x i ms v .count → Used x i n (transaction.entry (transaction.store x i ms v .log) n .index)
   used n h = go (decLt n (x .count))
     where
       last : (g : Found) → n < store-count x g → x .count ≤ n → (n ≡ x .count) × (n ≡ store-place x g) × (g ≡ Absent)
       last (At k) q o = absurd (omega arith)
       last Absent q o = (omega arith, omega arith, refl)
 
-      go : Dec (n < x .count) → Used x i n (transaction.entry (transaction.store x i v .log) n .index)
+      go : Dec (n < x .count) → Used x i n (transaction.entry (transaction.store x i ms v .log) n .index)
       go (yes q) = old q (kept n q)
       go (no q) =
           let z = last (transaction.lookup x i) (rw count-is at h) (omega arith) in
-          new (z .0) (ap (λ (k : ℕ). transaction.entry (transaction.store x i v .log) k .index) (z .1) ∙ ap (λ (e : Entry). e .index) there) (z .2)
+          new (z .0) (ap (λ (k : ℕ). transaction.entry (transaction.store x i ms v .log) k .index) (z .1) ∙ there-index) (z .2)
 
-  store-unused : unused-zero (transaction.store x i v) ≡ true
+  store-unused : unused-zero (transaction.store x i ms v) ≡ true
   unfolding unused-zero
   store-unused =
-      and-intro _ _ (le-leb (transaction.store x i v .count) most-places (rw count-is (store-count-most x (transaction.lookup x i) (unused-count x u) f)))
+      and-intro _ _ (le-leb (transaction.store x i ms v .count) most-places (rw count-is (store-count-most x (transaction.lookup x i) (unused-count x u) f)))
       (all-from _ most-places (λ n h. go n h (ℕ-discrete n (store-place x (transaction.lookup x i)))))
     where
       go : (n : ℕ) → n < most-places → Dec (n ≡ store-place x (transaction.lookup x i))
-          → place-right (transaction.entry (transaction.store x i v .log) n) n (transaction.store x i v .count) ≡ true
+          → place-right (transaction.entry (transaction.store x i ms v .log) n) n (transaction.store x i ms v .count) ≡ true
       go n h (yes e) = place-used _ n _ (rw (count-is, e) (store-place-below x i))
-      go n h (no o) = rw (store-other x (transaction.lookup x i) i v n o) (place-more _ n (x .count) _ count-grows (unused-place x u n h))
+      go n h (no o) = rw (store-other x (transaction.lookup x i) i ms v n o) (place-more _ n (x .count) _ count-grows (unused-place x u n h))
 
-  store-indices : (len : ℕ) → i < len → indices-inside x len ≡ true → indices-inside (transaction.store x i v) len ≡ true
+  store-indices : (len : ℕ) → i < len → indices-inside x len ≡ true → indices-inside (transaction.store x i ms v) len ≡ true
   unfolding indices-inside
   store-indices len h p = all-from _ _ (λ n q. go n _ (used n q))
     where
@@ -252,23 +272,23 @@ module _ (x : Transaction) (i v : ℕ) (s : Shaped x) (u : unused-zero x ≡ tru
       go n j (old q e) = rw e (all-at (λ n. ltb (transaction.entry (x .log) n .index) len) (x .count) n p q)
       go n j (new q e a) = rw e (lt-ltb i len h)
 
-  store-differ : distinct x ≡ true → distinct (transaction.store x i v) ≡ true
+  store-differ : distinct x ≡ true → distinct (transaction.store x i ms v) ≡ true
   unfolding distinct unlike
   store-differ p = all-from _ _ (λ n q. all-from _ n (λ k l. go n k l _ (used n q)))
     where
-      go : (n k : ℕ) → k < n → (j : ℕ) → Used x i n j → not (eqb (transaction.entry (transaction.store x i v .log) k .index) j) ≡ true
+      go : (n k : ℕ) → k < n → (j : ℕ) → Used x i n j → not (eqb (transaction.entry (transaction.store x i ms v .log) k .index) j) ≡ true
       go n k l j (old q e) = rw (e, kept k (omega arith)) (all-at _ n k (all-at (unlike x) (x .count) n p q) l)
       go n k l j (new q e a) =
           rw (e, kept k (omega arith)) (ap not (ne-eqb (transaction.entry (x .log) k .index) i (lookup-absent (x .log) i (x .count) {k = k} a (omega arith))))
 
   -- the lines of the log's indices after a store
-  logs : (m : ℕ) → logs-line (transaction.store x i v) m ≡ (logs-line x m || eqb m (transaction.line i))
+  logs : (m : ℕ) → logs-line (transaction.store x i ms v) m ≡ (logs-line x m || eqb m (transaction.line i))
   unfolding logs-line
   logs m = go (eqb m (transaction.line i)) refl (logs-line x m) refl
     where
-      go : (b : Bool) → eqb m (transaction.line i) ≡ b → (c : Bool) → logs-line x m ≡ c → logs-line (transaction.store x i v) m ≡ (c || b)
+      go : (b : Bool) → eqb m (transaction.line i) ≡ b → (c : Bool) → logs-line x m ≡ c → logs-line (transaction.store x i ms v) m ≡ (c || b)
       go true e c d =
-          any-at _ _ (store-place x (transaction.lookup x i)) (rw there (eq-eqb _ m (sym (eqb-true m _ e)))) (rw count-is (store-place-below x i)) ∙ sym (or-true c)
+          any-at _ _ (store-place x (transaction.lookup x i)) (rw there-index (eq-eqb _ m (sym (eqb-true m _ e)))) (rw count-is (store-place-below x i)) ∙ sym (or-true c)
       go false e true d = let w = any-witness _ (x .count) d in any-at _ _ (w .0) (rw (kept (w .0) (w .1)) (w .2)) (omega (arith, count-grows, w .1))
       go false e false d = any-false _ _ (λ n q. line-of n _ (used n q))
         where
@@ -276,9 +296,9 @@ module _ (x : Transaction) (i v : ℕ) (s : Shaped x) (u : unused-zero x ≡ tru
           line-of n j (old q r) = rw r (any-false-at (λ n. eqb (transaction.line (transaction.entry (x .log) n .index)) m) (x .count) n d q)
           line-of n j (new q r a) = rw r (ne-eqb _ m (λ z. eqb-false m _ e (sym z)))
 
-  store-logged : transaction.line i < lines → writes-logged x ≡ true → writes-logged (transaction.store x i v) ≡ true
+  store-logged : transaction.line i < lines → writes-logged x ≡ true → writes-logged (transaction.store x i ms v) ≡ true
   unfolding writes-logged line-logged
-  store-logged l p = all-from _ lines (λ m h. rw (store-has x i v m s l, logs m) (both (lineset.has (x .writes) m) (logs-line x m) _ (all-at (line-logged x) lines m p h)))
+  store-logged l p = all-from _ lines (λ m h. rw (store-has x i ms v m s l, logs m) (both (lineset.has (x .writes) m) (logs-line x m) _ (all-at (line-logged x) lines m p h)))
     where
       both : (a b c : Bool) → Bool·beq a b ≡ true → Bool·beq (a || c) (b || c) ≡ true
       both true true c e = refl
@@ -287,16 +307,41 @@ module _ (x : Transaction) (i v : ℕ) (s : Shaped x) (u : unused-zero x ≡ tru
       both false false true e = refl
       both false false false e = refl
 
-pub store-held : (x : Transaction) (i v len : ℕ) → Shaped x → i < len → transaction.line i < lines → transaction.full x (transaction.lookup x i) ≡ false
-    → held-right x len ≡ true → held-right (transaction.store x i v) len ≡ true
-store-held x i v len s h l f r =
+  -- marks and values after a store: its place has a mark, and zeros where none is
+  stored-right : (e : Entry) → 0 < ms → only-marked (e .marks) (e .value) ≡ true → marked-right (transaction.stored e i ms v) ≡ true
+  unfolding marked-right transaction.stored
+  stored-right e z o =
+      and-intro _ _ (ap not (ne-eqb (bitOr (e .marks) ms) 0 (λ q. omega (arith, or-add-and (e .marks) ms, and-le-l (e .marks) ms)))) (merged-only ms (e .marks) (e .value) v o)
+
+  over-right : marks-right x ≡ true → (g : Found) → transaction.lookup x i ≡ g → only-marked (store-over x g .marks) (store-over x g .value) ≡ true
+  unfolding marks-right marked-right
+  over-right p (At k) e =
+      and-right (not (eqb (transaction.entry (x .log) k .marks) 0)) _ (all-at (λ n. marked-right (transaction.entry (x .log) n)) (x .count) k p (lookup-below (x .log) i (x .count) e))
+  over-right p Absent e = none-marked
+
+  store-marks : 0 < ms → marks-right x ≡ true → marks-right (transaction.store x i ms v) ≡ true
+  unfolding marks-right
+  store-marks z p = all-from _ _ (λ n q. go n (ℕ-discrete n (store-place x (transaction.lookup x i))) (used n q))
+    where
+      below : (n : ℕ) {j : ℕ} → (n ≡ store-place x (transaction.lookup x i) → ⊥) → Used x i n j → n < x .count
+      below n o (old q e) = q
+      below n o (new q e a) = absurd (o (q ∙ sym (ap (store-place x) a)))
+
+      go : (n : ℕ) → Dec (n ≡ store-place x (transaction.lookup x i)) → Used x i n (transaction.entry (transaction.store x i ms v .log) n .index) → marked-right (transaction.entry (transaction.store x i ms v .log) n) ≡ true
+      go n (yes e) q = ap (λ (k : ℕ). marked-right (transaction.entry (transaction.store x i ms v .log) k)) e ∙ ap marked-right there ∙ stored-right _ z (over-right p (transaction.lookup x i) refl)
+      go n (no o) q = rw (store-other x (transaction.lookup x i) i ms v n o) (all-at (λ n. marked-right (transaction.entry (x .log) n)) (x .count) n p (below n o q))
+
+pub store-held : (x : Transaction) (i ms v len : ℕ) → Shaped x → 0 < ms → i < len → transaction.line i < lines → transaction.full x (transaction.lookup x i) ≡ false
+    → held-right x len ≡ true → held-right (transaction.store x i ms v) len ≡ true
+store-held x i ms v len s z h l f r =
     let p = held-parts x len r in
-    held-whole (transaction.store x i v) len (record {
-      unused = store-unused x i v s (p .unused) f;
-      indices = store-indices x i v s (p .unused) f len h (p .indices);
-      touched = more-inside x (transaction.store x i v) i len h (λ m. store-touches x i v m s l) (p .touched);
-      differ = store-differ x i v s (p .unused) f (p .differ);
-      logged = store-logged x i v s (p .unused) f l (p .logged);
+    held-whole (transaction.store x i ms v) len (record {
+      unused = store-unused x i ms v s (p .unused) f;
+      indices = store-indices x i ms v s (p .unused) f len h (p .indices);
+      touched = more-inside x (transaction.store x i ms v) i len h (λ m. store-touches x i ms v m s l) (p .touched);
+      differ = store-differ x i ms v s (p .unused) f (p .differ);
+      logged = store-logged x i ms v s (p .unused) f l (p .logged);
+      marks = store-marks x i ms v s (p .unused) f z (p .marks);
     })
 
 -- ---- footprints
@@ -320,10 +365,10 @@ join-footprint x i s l c h =
     room x (transaction.line i) _ c h (footprint-with-old (x .reads) (x .writes) (transaction.line i))
     (footprint-with-new (x .reads) (x .writes) (transaction.line i) l (omega arith))
 
-pub store-footprint : (x : Transaction) (i v : ℕ) → Shaped x → transaction.line i < lines → transaction.crowded x (transaction.line i) ≡ false
+pub store-footprint : (x : Transaction) (i ms v : ℕ) → Shaped x → transaction.line i < lines → transaction.crowded x (transaction.line i) ≡ false
     → lineset.footprint (x .reads) (x .writes) ≤ most-footprint
-    → lineset.footprint (transaction.store x i v .reads) (transaction.store x i v .writes) ≤ most-footprint
-store-footprint x i v s l c h =
+    → lineset.footprint (transaction.store x i ms v .reads) (transaction.store x i ms v .writes) ≤ most-footprint
+store-footprint x i ms v s l c h =
     rw store-is
     (room x (transaction.line i) _ c h (footprint-with-old-write (x .reads) (x .writes) (transaction.line i))
     (footprint-with-new-write (x .reads) (x .writes) (transaction.line i) l (omega arith)))

@@ -22,9 +22,8 @@ use Rattle.thread.specs.declared.Thread.{Thread}
 use Rattle.thread.specs.declared.Effect.{Effect}
 use Rattle.event.specs.Event.{operands-right}
 use Rattle.event.specs.declared.Event.{Event}
-use Rattle.event.proofs.Laws.{ld-in, std-in}
 use Rattle.power_common.specs.Common.{cr0-from-state, fails, dooms}
-use Rattle.power_access.specs.Access.{takes, tracked, loads, ld-overflows, std-overflows, ld, logs, meets-own, std, tlbie}
+use Rattle.power_access.specs.Access.{takes, tracked, loads, ld-overflows, std-overflows, load, logs, meets-own, store, tlbie}
 use Rattle.power_aborts.specs.Aborts.{tabort, tabort-if}
 use Rattle.power_begins.specs.Begins.{tbegin, commits, tend, tsuspend, tresume, tsr}
 use Rattle.power_reclaims.specs.Reclaims.{tcheck, treclaim, trechkpt}
@@ -160,22 +159,22 @@ module _ (t : Thread) where
 data Leaves (t : Thread) (f : Effect) : Type 0 where
   shed : Sheds (t .transaction) (f .thread .transaction) → Leaves t f
   loaded : (i : ℕ) → transaction.line i < lines → f .thread .transaction ≡ transaction.join (t .transaction) i → Loads f (transaction.line i) → Leaves t f
-  stored : (i v : ℕ) → transaction.line i < lines → f .thread .transaction ≡ transaction.store (t .transaction) i v → Stores f (transaction.line i) → Leaves t f
+  stored : (i m v : ℕ) → transaction.line i < lines → f .thread .transaction ≡ transaction.store (t .transaction) i m v → Stores f (transaction.line i) → Leaves t f
 
 module _ (t : Thread) (i : ℕ) (below : transaction.line i < lines) where
-  ld-leaves : (s : State) (rt : ℕ) (mem : List ℕ) → Leaves t (ld s t rt i mem)
-  unfolding ld
-  ld-leaves N rt mem = shed (inl refl)
-  ld-leaves T rt mem =
+  load-leaves : (s : State) (rt j w : ℕ) (mem : List ℕ) → Leaves t (load s t rt i j w mem)
+  unfolding load
+  load-leaves N rt j w mem = shed (inl refl)
+  load-leaves T rt j w mem =
       fork (Leaves t) (ld-overflows t i) (λ o. shed (fails-sheds t _))
-      (λ o. fork (λ (u : Thread). Leaves t (loads (takes u rt i mem) i)) (tracked t) (λ e. loaded i below refl refl) (λ e. shed (inl refl)))
-  ld-leaves S rt mem = shed (inl refl)
+      (λ o. fork (λ (u : Thread). Leaves t (loads (takes u rt i j w mem) i)) (tracked t) (λ e. loaded i below refl refl) (λ e. shed (inl refl)))
+  load-leaves S rt j w mem = shed (inl refl)
 
-  std-leaves : (s : State) (v : ℕ) → Leaves t (std s t v i)
-  unfolding std logs
-  std-leaves N v = shed (inl refl)
-  std-leaves T v = fork (Leaves t) (std-overflows t i) (λ o. shed (fails-sheds t _)) (λ o. stored i v below refl refl)
-  std-leaves S v = shed (meets-own-sheds t _ _ _)
+  store-leaves : (s : State) (m v : ℕ) → Leaves t (store s t i m v)
+  unfolding store logs
+  store-leaves N m v = shed (inl refl)
+  store-leaves T m v = fork (Leaves t) (std-overflows t i) (λ o. shed (fails-sheds t _)) (λ o. stored i m v below refl refl)
+  store-leaves S m v = shed (meets-own-sheds t _ _ _)
 
 effect-leaves : (e : Event) (t : Thread) (mem : List ℕ) → memory-sized (length mem) ≡ true → operands-right e (length mem) ≡ true → Leaves t (effect e t mem)
 unfolding effect treclaim trechkpt mtspr interrupt host transaction.discard
@@ -192,8 +191,8 @@ effect-leaves e t mem z o =
       treclaim = λ ra o. shed (inr refl);
       trechkpt = λ o. shed (inl refl);
       mtspr = λ spr ra o. shed (inl refl);
-      ld = λ rt i o. ld-leaves t i (line-below i _ z (ld-in rt i _ o .1)) (t .control .msr .state) rt mem;
-      std = λ ra i o. std-leaves t i (line-below i _ z (std-in ra i _ o .1)) (t .control .msr .state) _;
+      load = λ e rt i j w a o. load-leaves t i (line-below i _ z (a _ o .1)) (t .control .msr .state) rt j w mem;
+      store = λ e ra i m v a n o. store-leaves t i (line-below i _ z (a _ o .1)) (t .control .msr .state) m _;
       disallowed = λ o. shed (disallowed-sheds t (t .control .msr .state));
       interrupt = λ o. shed (inl refl);
       host = λ pr tm o. shed (inl refl);
@@ -215,9 +214,9 @@ module _ (t : Thread) (f : Effect) (shaped : Shaped (t .transaction)) where
   leaves-writes : (l : ℕ) → Leaves t f → lineset.has (f .thread .transaction .writes) l ≡ true → (lineset.has (t .transaction .writes) l ≡ true) ⊎ Stores f l
   leaves-writes l (shed s) p = inl (sheds-writes (t .transaction) _ l s p)
   leaves-writes l (loaded i b q k) p = inl (rw q at p)
-  leaves-writes l (stored i v b q k) p =
+  leaves-writes l (stored i m v b q k) p =
       ⊎-elim inl (λ m. inr (rw m k))
-      (added (lineset.has (t .transaction .writes) l) l (transaction.line i) (sym (store-has (t .transaction) i v l shaped b) ∙ (rw q at p)))
+      (added (lineset.has (t .transaction .writes) l) l (transaction.line i) (sym (store-has (t .transaction) i m v l shaped b) ∙ (rw q at p)))
 
   leaves-touches : (l : ℕ) → Leaves t f → transaction.touches (f .thread .transaction) l ≡ true
       → (transaction.touches (t .transaction) l ≡ true) ⊎ (Stores f l ⊎ Loads f l)
@@ -228,13 +227,13 @@ module _ (t : Thread) (f : Effect) (shaped : Shaped (t .transaction)) where
       ⊎-elim (λ m. inl (or-comm r w ∙ m)) (λ m. inr (inr (rw m k)))
       (added (w || r) l (transaction.line i)
       (or-assoc w r _ ∙ or-comm w _ ∙ ap (λ (c : Bool). c || w) (sym (join-has (t .transaction) i l shaped b)) ∙ (rw q at p)))
-  leaves-touches l (stored i v b q k) p =
+  leaves-touches l (stored i m v b q k) p =
       let r = lineset.has (t .transaction .reads) l in
       let w = lineset.has (t .transaction .writes) l in
       ⊎-elim inl (λ m. inr (inl (rw m k)))
       (added (r || w) l (transaction.line i)
       (or-assoc r w _
-      ∙ (λ j. lineset.has (sym (store-reads (t .transaction) i v) j) l || sym (store-has (t .transaction) i v l shaped b) j) ∙ (rw q at p)))
+      ∙ (λ j. lineset.has (sym (store-reads (t .transaction) i m v) j) l || sym (store-has (t .transaction) i m v l shaped b) j) ∙ (rw q at p)))
 
 module _ (e : Event) (t : Thread) (mem : List ℕ) (z : memory-sized (length mem) ≡ true) (h : thread-valid t (length mem) ≡ true) (o : operands-right e (length mem) ≡ true) where
   pub effect-writes : (l : ℕ) → lineset.has (effect e t mem .thread .transaction .writes) l ≡ true → (lineset.has (t .transaction .writes) l ≡ true) ⊎ Stores (effect e t mem) l
