@@ -22,7 +22,7 @@ use Rattle.host.specs.declared.RawRecord.{RawRecord}
 
 -- version four above, the change requests that have landed below; src/lib.rt has the same number for the code
 abbrev pub version : ℕ
-version = 0x00040009
+version = 0x0004000A
 
 -- the numbers 1 and 2 of any bits: bits that are no machine are 2 where the size is right
 unfoldable pub number : RawMachine → ℕ → ℕ

@@ -8,7 +8,7 @@ use crossing::RawMachine;
 use event::Fields;
 
 // The version of the rules: the model's version above, the landed change requests below.
-pub const VERSION: u32 = 0x0004_0009;
+pub const VERSION: u32 = 0x0004_000A;
 
 // A step's answer, the threads that failed in it (rule H8: bit v for thread v), and the machine after it.
 #[repr(C)]

@@ -10,7 +10,7 @@ use borrow.Author.Tests.{leb-true, ltb-false, le-leb, le-ltb, eqb-true}
 use Rattle.base.proofs.Below.{and-left, and-right, and-intro, no-number}
 use Rattle.event.specs.Event.{kind, fields-of}
 use Rattle.event.specs.declared.Event.{Event}
-use Rattle.event.specs.declared.Event.the-variants.{Tbegin, Tend, Tabort, Tabortwc, Tabortdc, Tsr, Tcheck, Treclaim, Trechkpt, Mtspr, Mfspr, Ld, Std, Addi, Disallowed, Interrupt, Host, Rfid, Mtmsrd, Tlbie}
+use Rattle.event.specs.declared.Event.the-variants.{Tbegin, Tend, Tabort, Tabortwc, Tabortdc, Tsr, Tcheck, Treclaim, Trechkpt, Mtspr, Mfspr, Ld, Std, Addi, Disallowed, Interrupt, Host, Rfid, Mtmsrd, Lbz, Lhz, Lwz, Stb, Sth, Stw, Tlbie}
 use Rattle.event.specs.declared.Fields.{Fields}
 use Rattle.tape.specs.Tape as three
 use Rattle.tape.specs.Tape.{record-size, byte, of-kind}
@@ -167,6 +167,12 @@ same-kind w Interrupt = refl
 same-kind w (Host pr tm) = refl
 same-kind w Rfid = refl
 same-kind w (Mtmsrd t s tm pr) = refl
+same-kind w (Lbz rt a) = refl
+same-kind w (Lhz rt a) = refl
+same-kind w (Lwz rt a) = refl
+same-kind w (Stb ra a) = refl
+same-kind w (Sth ra a) = refl
+same-kind w (Stw ra a) = refl
 same-kind w (Tlbie p) = refl
 
 same-thread : (w : ℕ) (e : Event) → fields-of w e .thread ≡ w

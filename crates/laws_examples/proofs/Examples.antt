@@ -8,6 +8,7 @@ use lib.ListN.{length, getD}
 use borrow.Author.Tests.{eqb-false}
 use Rattle.base.specs.Below.{all-below, any-below, count-below}
 use Rattle.lines.specs.Lines as lineset
+use Rattle.doubleword.specs.Doubleword as doubleword
 use Rattle.transaction.specs.Transaction as transaction
 use Rattle.thread.specs.Thread.{recording, handling, felled}
 use Rattle.event.specs.Event.{kind, operands-right, tm-instruction, privileged}
@@ -32,19 +33,20 @@ use Rattle.laws_examples.specs.Examples.{Example, small-memory, machine,
 -- a name for all that the examples compute through: to unfold it is to unfold what stands on its line
 unfoldable pub computed : Bool
 unfolding all-below any-below count-below
+    doubleword.byte doubleword.number doubleword.merged doubleword.only-marked doubleword.part
     lineset.place lineset.empty lineset.has lineset.with lineset.meets lineset.footprint
-    transaction.empty transaction.discard transaction.lookup-in transaction.loaded transaction.crowded transaction.full transaction.store-at transaction.commit-in transaction.written
+    transaction.empty transaction.discard transaction.lookup-in transaction.loaded transaction.crowded transaction.full transaction.stored transaction.store-at transaction.commit-in transaction.written
     recording handling felled kind operands-right tm-instruction privileged fails compare.picked compare.holds
     effect begins.tend aborts.tabort aborts.tabort-if begins.tsuspend begins.tsr reclaims.treclaim special.get-spr special.mfspr
-    access.ld access.logs access.meets-own access.std plain.addi plain.disallowed plain.interrupt
+    access.load access.logs access.meets-own access.store plain.addi plain.disallowed plain.interrupt
     fresh fresh-thread
-    valid.sized valid.shaped valid.place-right valid.unused-zero valid.aligned valid.cr-small valid.fields-small valid.no-line valid.holds-nothing valid.live-rules valid.state-rules valid.indices-inside valid.line-inside valid.lines-inside valid.unlike valid.distinct valid.logs-line valid.line-logged valid.writes-logged valid.held-right valid.thread-valid valid.clash valid.clear-of valid.apart valid.thread-right valid.threads-right valid.valid valid.machine-number
+    valid.sized valid.shaped valid.place-right valid.unused-zero valid.aligned valid.cr-small valid.fields-small valid.no-line valid.holds-nothing valid.live-rules valid.state-rules valid.indices-inside valid.line-inside valid.lines-inside valid.unlike valid.distinct valid.logs-line valid.line-logged valid.writes-logged valid.marked-right valid.marks-right valid.held-right valid.thread-valid valid.clash valid.clear-of valid.apart valid.thread-right valid.threads-right valid.valid valid.machine-number
     bad-thing turned-down refused-there refused-later refusal hits struck strike others perform step tells seen
 computed = true
 
 -- whatever the values
 pub machines-alike : (x : Example) (a b : ℕ) → Alike 0 (machine x a) (machine x b)
-unfolding transaction.empty transaction.store-at transaction.lookup-in
+unfolding transaction.empty transaction.stored transaction.store-at transaction.lookup-in
 machines-alike x a b =
     record {
       count = refl;
@@ -58,6 +60,7 @@ machines-alike x a b =
             writes = refl;
             count = refl;
             addresses = elim [ zero ↦ refl | suc n ↦ refl ];
+            marks = elim [ zero ↦ refl | suc n ↦ refl ];
           };
     }
 

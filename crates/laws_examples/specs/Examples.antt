@@ -5,6 +5,7 @@ use mathlib.Core.List.{List, [], _∷_}
 use Prim.Native.Nat.{ℕ}
 use lib.ListN.{length, set, replicate}
 use Rattle.base.specs.Limits.{most-threads}
+use Rattle.doubleword.specs.Doubleword.{all-marks}
 use Rattle.transaction.specs.Transaction as transaction
 use Rattle.transaction.specs.declared.Transaction.{Transaction}
 use Rattle.thread.specs.declared.State.the-variants.{T}
@@ -31,7 +32,7 @@ open-thread level pr value x =
 
 -- thread 0 has a value in register 1, and has stored it to doubleword 0
 abbrev pub holding : ℕ → Bool → ℕ → Thread
-holding level pr value = open-thread level pr value (transaction.store transaction.empty 0 value)
+holding level pr value = open-thread level pr value (transaction.store transaction.empty 0 all-marks value)
 
 -- the level and PR of thread 0, thread 1, and the events
 pub record Example : Type 0 where

@@ -17,7 +17,7 @@ use Rattle.thread.specs.declared.Thread.{Thread}
 use Rattle.thread.specs.declared.Effect.{Effect}
 use Rattle.power_common.specs.Common.{cr0-from-state, gpr, fails, dooms, abort-cause}
 use Rattle.power_aborts.specs.Compare.{holds-in-words, holds-in-doublewords}
-use Rattle.power_access.specs.Access.{ld-overflows, std-overflows, ld, logs, meets-own, std, tlbie}
+use Rattle.power_access.specs.Access.{ld-overflows, std-overflows, load, logs, meets-own, store, tlbie}
 use Rattle.power_aborts.specs.Aborts.{tabort, tabort-if}
 use Rattle.power_begins.specs.Begins.{tbegin, commits, tend, tsuspend, tresume, tsr}
 use Rattle.power_reclaims.specs.Reclaims.{tcheck, treclaim, trechkpt}
@@ -80,22 +80,22 @@ tresume-done N t = refl
 tresume-done T t = refl
 tresume-done S t = fork Done (t .control .msr .doomed) (λ e. refl) (λ e. refl)
 
-ld-done : (s : State) (t : Thread) (rt i : ℕ) (mem : List ℕ) → Does (ld s t rt i mem)
-unfolding ld
-ld-done N t rt i mem = refl
-ld-done T t rt i mem =
+load-done : (s : State) (t : Thread) (rt i j w : ℕ) (mem : List ℕ) → Does (load s t rt i j w mem)
+unfolding load
+load-done N t rt i j w mem = refl
+load-done T t rt i j w mem =
     fork Does (ld-overflows t i) (λ e. fails-done t Footprint) (λ e. refl)
-ld-done S t rt i mem = refl
+load-done S t rt i j w mem = refl
 
 meets-own-done : (met : Bool) (t : Thread) (cause : Cause) (exact : Bool) → Done (meets-own met t cause exact)
 unfolding meets-own
 meets-own-done met t cause exact = fork Done met (λ e. dooms-done t cause exact) (λ e. refl)
 
-std-done : (s : State) (t : Thread) (v i : ℕ) → Does (std s t v i)
-unfolding std logs
-std-done N t v i = refl
-std-done T t v i = fork Does (std-overflows t i) (λ e. fails-done t Footprint) (λ e. refl)
-std-done S t v i = meets-own-done _ t _ _
+store-done : (s : State) (t : Thread) (i m v : ℕ) → Does (store s t i m v)
+unfolding store logs
+store-done N t i m v = refl
+store-done T t i m v = fork Does (std-overflows t i) (λ e. fails-done t Footprint) (λ e. refl)
+store-done S t i m v = meets-own-done _ t _ _
 
 tlbie-done : (s : State) (t : Thread) (p : ℕ) → Does (tlbie s t p)
 unfolding tlbie
@@ -132,8 +132,8 @@ effect-done e t mem =
       treclaim = λ ra. refl;
       trechkpt = refl;
       mtspr = λ spr ra. refl;
-      ld = λ rt i. ld-done (t .control .msr .state) t rt i mem;
-      std = λ ra i. std-done (t .control .msr .state) t (gpr t ra) i;
+      load = λ e rt i j w a. load-done (t .control .msr .state) t rt i j w mem;
+      store = λ e ra i m v a z. store-done (t .control .msr .state) t i m (v (gpr t ra));
       disallowed = disallowed-done (t .control .msr .state) t;
       interrupt = refl;
       host = λ pr tm. refl;

@@ -6,6 +6,7 @@ use mathlib.Core.List.{List, [], _∷_}
 use Prim.Native.Nat.{ℕ, zero, suc}
 use native.Mathlib.Omega.{arith}
 use lib.Dec.{eqb, leb}
+use lib.Bits.{bitOr}
 use lib.ListN.{length, getD, set}
 use borrow.Author.Tests.{not-false}
 use Rattle.base.specs.Limits.{most-levels}
@@ -33,7 +34,7 @@ use Rattle.event.specs.Event.{trechkpt-kind, mtspr-kind, kind, tm-instruction}
 use Rattle.event.specs.declared.Event.{Event}
 use Rattle.event.specs.declared.Event.the-variants.{Trechkpt, Mtspr}
 use Rattle.power_common.specs.Common.{did, doing, quiet, passes, gpr, fails, abort-cause}
-use Rattle.power_access.specs.Access.{tracked, ld-overflows, takes, loads, ld, stores, logs, std, tlbie}
+use Rattle.power_access.specs.Access.{tracked, ld-overflows, takes, loads, load, stores, logs, store, tlbie}
 use Rattle.power_aborts.specs.Aborts.{tabort}
 use Rattle.power_begins.specs.Begins.{tbegin, commits, tend, tresume, tsr}
 use Rattle.power_reclaims.specs.Reclaims.{tcheck, treclaim}
@@ -59,6 +60,10 @@ pub record EvenEffect (a b : Effect) : Type 0 where
   pub unwritten : a .write ≡ Unwritten
   pub unwritten' : b .write ≡ Unwritten
   pub threads : Even (a .thread) (b .thread)
+
+-- two places of a log with the same doubleword and the same marks
+abbrev Stored : Entry → Entry → Type 0
+Stored a b = (a .index ≡ b .index) × (a .marks ≡ b .marks)
 
 -- what holds on both ways of one test
 pub both : {A : Type 0} (P : A → A → Type 0) (b : Bool) {x y x' y' : A} → (b ≡ true → P x x') → (b ≡ false → P y y') → P (cond b x y) (cond b x' y')
@@ -108,10 +113,10 @@ barred : (k : Control) (e : Event) → bad-thing (k .msr .state) k (kind e) (tm-
 barred k e b o = true≢false (sym b ∙ not-bad k e o)
 
 module _ (t : Thread) (r : Registers) (f : ℕ) (es : List Entry) (p : t .control .msr .state ≡ T) (z : failed (t .control) ≡ false)
-    (size : length (t .transaction .log) ≡ length es) (q : (n : ℕ) → entry (t .transaction .log) n .index ≡ entry es n .index) where
+    (size : length (t .transaction .log) ≡ length es) (q : (n : ℕ) → Stored (entry (t .transaction .log) n) (entry es n)) where
   -- on to the next instruction, with whatever registers, CR0 and values
   goes : {k : Control} {g h : Registers} {c d : ℕ} {reads writes : LineSet} {n : ℕ} {xs ys : List Entry} {touch : Touch}
-      → k .msr .state ≡ T → ((n : ℕ) → entry xs n .index ≡ entry ys n .index)
+      → k .msr .state ≡ T → ((n : ℕ) → Stored (entry xs n) (entry ys n))
       → EvenEffect
       (doing (did 0 (record { live = g; cr0 = c; checkpoint = t .checkpoint; control = k; transaction = record { reads = reads; writes = writes; count = n; log = xs } })) touch Unwritten)
       (doing (did 0 (record { live = h; cr0 = d; checkpoint = t .checkpoint; control = k; transaction = record { reads = reads; writes = writes; count = n; log = ys } })) touch Unwritten)
@@ -121,7 +126,7 @@ module _ (t : Thread) (r : Registers) (f : ℕ) (es : List Entry) (p : t .contro
         touch = refl;
         unwritten = refl;
         unwritten' = refl;
-        threads = inr (record { transactional = s; control = refl; checkpoint = refl; reads = refl; writes = refl; count = refl; addresses = i });
+        threads = inr (record { transactional = s; control = refl; checkpoint = refl; reads = refl; writes = refl; count = refl; addresses = λ n. i n .0; marks = λ n. i n .1 });
       }
 
   -- the thread's own failure
@@ -159,31 +164,31 @@ module _ (t : Thread) (r : Registers) (f : ℕ) (es : List Entry) (p : t .contro
   tresume-even = goes p q
 
   -- a load, whatever it loads
-  ld-even : (rt i : ℕ) (mem : List ℕ) → EvenEffect (ld T t rt i mem) (ld T (beside t r f es) rt i mem)
-  unfolding ld transaction.crowded
-  ld-even rt i mem =
+  load-even : (rt i j w : ℕ) (mem : List ℕ) → EvenEffect (load T t rt i j w mem) (load T (beside t r f es) rt i j w mem)
+  unfolding load transaction.crowded
+  load-even rt i j w mem =
       both EvenEffect (ld-overflows t i) (λ x. falls _)
-      (λ x. both (λ (x y : Thread). EvenEffect (loads (takes x rt i mem) i) (loads (takes y rt i mem) i)) (tracked t) (λ y. goes p q) (λ y. goes p q))
+      (λ x. both (λ (x y : Thread). EvenEffect (loads (takes x rt i j w mem) i) (loads (takes y rt i j w mem) i)) (tracked t) (λ y. goes p q) (λ y. goes p q))
 
-  -- a store, whatever it stores: its place is found by the indices alone
-  std-even : (v v' i : ℕ) → EvenEffect (std T t v i) (std T (beside t r f es) v' i)
-  unfolding std logs transaction.crowded transaction.full transaction.store-at
-  std-even v v' i =
+  -- a store, whatever it stores: its place is found by the indices alone, and what it marks does not go by the value
+  store-even : (i m v v' : ℕ) → EvenEffect (store T t i m v) (store T (beside t r f es) i m v')
+  unfolding store logs transaction.crowded transaction.full transaction.store-at transaction.stored
+  store-even i m v v' =
       let g = transaction.lookup (t .transaction) i in
-      subst (λ (h : Found). EvenEffect (at t v g) (at (beside t r f es) v' h)) (lookup-same (t .transaction .log) es i _ (λ k l. q k)) (found g)
+      subst (λ (h : Found). EvenEffect (at t v g) (at (beside t r f es) v' h)) (lookup-same (t .transaction .log) es i _ (λ k l. q k .0)) (found g)
     where
       room : Thread → Found → Bool
       room t g = transaction.crowded (t .transaction) (transaction.line i) || transaction.full (t .transaction) g
 
       at : Thread → ℕ → Found → Effect
-      at t v g = cond (room t g) (quiet (fails t Footprint)) (stores (passes (with-transaction t (transaction.store-at (t .transaction) g i v))) i Unwritten)
+      at t v g = cond (room t g) (quiet (fails t Footprint)) (stores (passes (with-transaction t (transaction.store-at (t .transaction) g i m v))) i Unwritten)
 
-      stored : (n : ℕ) (a b : Entry) → a .index ≡ b .index → (k : ℕ) → entry (set (t .transaction .log) n a) k .index ≡ entry (set es n b) k .index
-      stored n a b e = set-both (λ k a b. a .index ≡ b .index) transaction.no-entry (t .transaction .log) es n a b size q e
+      kept : (n : ℕ) (a b : Entry) → Stored a b → (k : ℕ) → Stored (entry (set (t .transaction .log) n a) k) (entry (set es n b) k)
+      kept n a b e = set-both (λ k a b. Stored a b) transaction.no-entry (t .transaction .log) es n a b size q e
 
       found : (g : Found) → EvenEffect (at t v g) (at (beside t r f es) v' g)
-      found (At n) = both EvenEffect (room t (At n)) (λ x. falls _) (λ x. goes p (stored n _ _ refl))
-      found Absent = both EvenEffect (room t Absent) (λ x. falls _) (λ x. goes p (stored _ _ _ refl))
+      found (At n) = both EvenEffect (room t (At n)) (λ x. falls _) (λ x. goes p (kept n _ _ (refl, ap (λ (k : ℕ). bitOr k m) (q n .1))))
+      found Absent = both EvenEffect (room t Absent) (λ x. falls _) (λ x. goes p (kept _ _ _ (refl, refl)))
 
   disallowed-even : Evenly (disallowed T t) (disallowed T (beside t r f es))
   unfolding disallowed
@@ -221,8 +226,8 @@ module _ (t : Thread) (r : Registers) (f : ℕ) (es : List Entry) (p : t .contro
         treclaim = λ ra n o. treclaim-even ra (not-false _ n);
         trechkpt = λ n o. absurd (barred (t .control) Trechkpt (here (λ s. bad-thing s (t .control) trechkpt-kind true ≡ true) refl) o);
         mtspr = λ spr ra n o. absurd (barred (t .control) (Mtspr spr ra) (here (λ s. bad-thing s (t .control) mtspr-kind (tm-spr spr) ≡ true) refl) o);
-        ld = λ rt i n o. here (λ s. EvenEffect (ld s t rt i mem) (ld s (beside t r f es) rt i mem)) (ld-even rt i mem);
-        std = λ ra i n o. here (λ s. EvenEffect (std s t (gpr t ra) i) (std s (beside t r f es) (gpr (beside t r f es) ra) i)) (std-even _ _ i);
+        load = λ e rt i j w a n o. here (λ s. EvenEffect (load s t rt i j w mem) (load s (beside t r f es) rt i j w mem)) (load-even rt i j w mem);
+        store = λ e ra i m v a z n o. here (λ s. EvenEffect (store s t i m (v (gpr t ra))) (store s (beside t r f es) i m (v (gpr (beside t r f es) ra)))) (store-even i m _ _);
         disallowed = λ n o. here (λ s. Evenly (disallowed s t) (disallowed s (beside t r f es))) disallowed-even;
         interrupt = λ n o. absurd (true≢false n);
         host = λ pr tm n o. goes p q;
@@ -238,4 +243,4 @@ module _ {t u : Thread} (a : AlikeThread t u) where
       → tells e t ≡ false → refused-there (t .control) e ≡ 0 → EvenEffect (effect e t mem) (effect e u mem)
   effect-alike e mem size z n o =
       subst (λ (x : Thread). EvenEffect (effect e t mem) (effect e x mem)) (is-beside a)
-      (effect-even t (u .live) (u .cr0) (u .transaction .log) (a .transactional) z size (a .addresses) e mem n o)
+      (effect-even t (u .live) (u .cr0) (u .transaction .log) (a .transactional) z size (λ n. (a .addresses n, a .marks n)) e mem n o)

@@ -1,8 +1,9 @@
 -- A machine with a thread in T, and its erasure.
 use mathlib.Core.Path.{_≡_, refl, sym, ap, _∙_}
-use mathlib.Core.Bool.{Bool, true, false, _&&_, _||_}
+use mathlib.Core.Bool.{Bool, true, false, not, _&&_, _||_, or-true}
 use mathlib.Core.List.{List, [], map}
-use Prim.Native.Nat.{ℕ, _<_}
+use Prim.Native.Nat.{ℕ, _*_, _%_, _^_, _<_}
+use native.Mathlib.Nat.{zero-div}
 use native.Mathlib.Decide.{ℕ-discrete, decLt}
 use native.Mathlib.Omega.{arith}
 use lib.Dec.{eqb, leb, ltb}
@@ -12,6 +13,8 @@ use borrow.Author.Tests.{lt-ltb}
 use Rattle.base.specs.Limits.{lines, most-places}
 use Rattle.base.proofs.Below.{and-left, and-right, and-intro, all-at, all-from, all-cong}
 use Rattle.lines.specs.Lines as lineset
+use Rattle.lines.specs.Lines.{place}
+use Rattle.doubleword.specs.Doubleword.{bytes, byte, only-marked}
 use Rattle.lines.specs.declared.LineSet.{LineSet}
 use Rattle.transaction.specs.Transaction.{entry, no-entry}
 use Rattle.transaction.specs.declared.Entry.{Entry}
@@ -20,7 +23,7 @@ use Rattle.thread.specs.declared.State.{State}
 use Rattle.thread.specs.declared.State.the-variants.{T}
 use Rattle.thread.specs.declared.Thread.{Thread}
 use Rattle.machine.specs.Machine.{thread, no-thread}
-use Rattle.machine.specs.Valid.{sized, place-right, unused-zero, indices-inside, line-inside, lines-inside, unlike, distinct, logs-line, line-logged, writes-logged, held-right, cr-small, thread-valid}
+use Rattle.machine.specs.Valid.{sized, place-right, unused-zero, indices-inside, line-inside, lines-inside, unlike, distinct, logs-line, line-logged, writes-logged, marked-right, marks-right, held-right, cr-small, thread-valid}
 use Rattle.machine.specs.declared.Machine.{Machine}
 use Rattle.laws_keeping.proofs.Held.{held-parts, held-whole}
 use Rattle.laws_keeping.proofs.Fails.{right, valid}
@@ -37,14 +40,27 @@ entry-erased es n = List·getD-map erase-entry es n no-entry
 -- what is held stays right
 place-erased : (e : Entry) (n c : ℕ) → place-right e n c ≡ true → place-right (erase-entry e) n c ≡ true
 unfolding place-right
-place-erased e n c h = go (ltb n c) (eqb (e .index) 0) h
+place-erased e n c h = go (ltb n c) (eqb (e .index) 0 && eqb (e .marks) 0) h
   where
     go : (b i : Bool) → (b || i && eqb (e .value) 0) ≡ true → (b || i && true) ≡ true
     go true i h = refl
     go false i h = and-intro i true (and-left i _ h) refl
 
+byte-zero : (j : ℕ) → byte 0 j ≡ 0
+unfolding byte
+byte-zero j = ap (λ (x : ℕ). x % 256) (zero-div (2 ^ (8 * j)))
+
+-- zeros are right under any marks
+zeros-marked : (m : ℕ) → only-marked m 0 ≡ true
+unfolding only-marked
+zeros-marked m = all-from _ bytes (λ j l. rw byte-zero (or-true (place m j)))
+
+marked-erased : (e : Entry) → marked-right e ≡ true → marked-right (erase-entry e) ≡ true
+unfolding marked-right
+marked-erased e h = and-intro _ _ (and-left (not (eqb (e .marks) 0)) _ h) (zeros-marked (e .marks))
+
 held-erased : (x : Transaction) (len : ℕ) → held-right x len ≡ true → held-right (erase-held x) len ≡ true
-unfolding unused-zero indices-inside lines-inside line-inside distinct unlike writes-logged line-logged logs-line
+unfolding unused-zero indices-inside lines-inside line-inside distinct unlike writes-logged line-logged logs-line marks-right
 held-erased x len h =
     let p = held-parts x len h in
     let few = leb (x .count) most-places in
@@ -57,6 +73,7 @@ held-erased x len h =
       touched = p .touched;
       differ = all-cong (unlike (erase-held x)) (unlike x) (x .count) (λ n b. simp entry-erased) ∙ p .differ;
       logged = all-cong (line-logged (erase-held x)) (line-logged x) lines (λ l b. simp entry-erased) ∙ p .logged;
+      marks = all-from _ (x .count) (λ n b. rw entry-erased (marked-erased _ (all-at (λ n. marked-right (entry (x .log) n)) (x .count) n (p .marks) b)));
     })
 
 -- CR fields that are zero are small
@@ -103,6 +120,7 @@ erased-alike t p =
       writes = refl;
       count = refl;
       addresses = λ n. sym (ap (λ (e : Entry). e .index) (entry-erased (t .transaction .log) n));
+      marks = λ n. sym (ap (λ (e : Entry). e .marks) (entry-erased (t .transaction .log) n));
     }
 
 module _ (w : ℕ) (m : Machine) (p : thread (m .threads) w .control .msr .state ≡ T) where

@@ -23,7 +23,7 @@ abbrev pub erase-registers : Registers → Registers
 erase-registers r = record { gpr = replicate (length (r .gpr)) 0; cr = replicate (length (r .cr)) 0 }
 
 abbrev pub erase-entry : Entry → Entry
-erase-entry e = record { index = e .index; value = 0 }
+erase-entry e = record { index = e .index; marks = e .marks; value = 0 }
 
 abbrev pub erase-held : Transaction → Transaction
 erase-held x = record { reads = x .reads; writes = x .writes; count = x .count; log = map erase-entry (x .log) }

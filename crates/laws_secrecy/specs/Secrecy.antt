@@ -10,7 +10,7 @@ use Rattle.transaction.specs.Transaction.{entry}
 use Rattle.thread.specs.declared.State.the-variants.{T}
 use Rattle.thread.specs.declared.Thread.{Thread}
 use Rattle.event.specs.declared.Event.{Event}
-use Rattle.event.specs.declared.Event.the-variants.{Tbegin, Tend, Tabort, Tabortwc, Tabortdc, Tsr, Tcheck, Treclaim, Trechkpt, Mtspr, Mfspr, Ld, Std, Addi, Disallowed, Interrupt, Host, Rfid, Mtmsrd, Tlbie}
+use Rattle.event.specs.declared.Event.the-variants.{Tbegin, Tend, Tabort, Tabortwc, Tabortdc, Tsr, Tcheck, Treclaim, Trechkpt, Mtspr, Mfspr, Ld, Std, Addi, Disallowed, Interrupt, Host, Rfid, Mtmsrd, Lbz, Lhz, Lwz, Stb, Sth, Stw, Tlbie}
 use Rattle.power_begins.specs.Begins.{commits}
 use Rattle.machine.specs.Machine.{thread}
 use Rattle.machine.specs.Valid.{valid}
@@ -19,7 +19,8 @@ use Rattle.step.specs.Step.{Outcome, outcome, step}
 use Rattle.step.specs.Feed.{Fed, feed}
 use Rattle.machine.specs.declared.Machine.{Machine}
 
--- two threads alike except for their live registers (general registers and CR fields, CR0 too) and the values in their logs; both are Transactional
+-- two threads alike except for their live registers (general registers and CR fields, CR0 too) and the values in their logs; both are Transactional.
+-- The logs agree on doublewords and on which bytes were stored
 pub record AlikeThread (t u : Thread) : Type 0 where
   pub transactional : t .control .msr .state ≡ T
   pub control : t .control ≡ u .control
@@ -28,6 +29,7 @@ pub record AlikeThread (t u : Thread) : Type 0 where
   pub writes : t .transaction .writes ≡ u .transaction .writes
   pub count : t .transaction .count ≡ u .transaction .count
   pub addresses : (n : ℕ) → entry (t .transaction .log) n .index ≡ entry (u .transaction .log) n .index
+  pub marks : (n : ℕ) → entry (t .transaction .log) n .marks ≡ entry (u .transaction .log) n .marks
 
 -- two machines alike except for that of thread w
 pub record Alike (w : ℕ) (m n : Machine) : Type 0 where
@@ -56,6 +58,12 @@ tells Interrupt t = true
 tells (Host pr tm) t = false
 tells Rfid t = false
 tells (Mtmsrd b29 b30 tm pr) t = false
+tells (Lbz rt a) t = false
+tells (Lhz rt a) t = false
+tells (Lwz rt a) t = false
+tells (Stb ra a) t = false
+tells (Sth ra a) t = false
+tells (Stw ra a) t = false
 tells (Tlbie p) t = false
 
 -- the transaction of thread w is still open: it has not failed and was not reclaimed

@@ -8,12 +8,13 @@ use lib.Dec.{eqb}
 use lib.ListN.{length}
 use Rattle.base.specs.Below.{all-below, any-below, count-below}
 use Rattle.lines.specs.Lines as lineset
+use Rattle.doubleword.specs.Doubleword as doubleword
 use Rattle.transaction.specs.Transaction as transaction
 use Rattle.thread.specs.Thread.{recording, handling, felled}
 use Rattle.event.specs.Event.{kind, operands-right, tm-instruction, privileged}
 use Rattle.power_common.specs.Common.{fails, dooms}
 use Rattle.power_aborts.specs.Compare as compare
-use Rattle.power_access.specs.Access.{ld, logs, meets-own, std}
+use Rattle.power_access.specs.Access.{load, logs, meets-own, store}
 use Rattle.power_aborts.specs.Aborts.{tabort, tabort-if}
 use Rattle.power_begins.specs.Begins.{tbegin, tsuspend, tsr}
 use Rattle.power_plain.specs.Plain.{addi, disallowed, host}
@@ -58,12 +59,13 @@ told-same (f ∷ fs) (a ∷ rest) expects o v =
 -- a name for all that the cases compute through: to unfold it is to unfold what stands on its line
 computed : Bool
 unfolding all-below any-below count-below
+    doubleword.byte doubleword.number doubleword.merged doubleword.only-marked doubleword.part
     lineset.place lineset.empty lineset.has lineset.with lineset.meets lineset.footprint
-    transaction.empty transaction.discard transaction.lookup-in transaction.loaded transaction.crowded transaction.full transaction.store-at transaction.written
+    transaction.empty transaction.discard transaction.lookup-in transaction.loaded transaction.crowded transaction.full transaction.stored transaction.store-at transaction.written
     recording handling felled kind operands-right tm-instruction privileged fails dooms compare.picked compare.holds
-    effect tbegin tabort tabort-if tsuspend tsr ld logs meets-own std addi disallowed host
+    effect tbegin tabort tabort-if tsuspend tsr load logs meets-own store addi disallowed host
     fresh fresh-thread
-    valid.sized valid.shaped valid.place-right valid.unused-zero valid.aligned valid.cr-small valid.fields-small valid.no-line valid.holds-nothing valid.live-rules valid.state-rules valid.indices-inside valid.line-inside valid.lines-inside valid.unlike valid.distinct valid.logs-line valid.line-logged valid.writes-logged valid.held-right valid.thread-valid valid.zero-gpr valid.zero-cr valid.zero-msr valid.zero-failure valid.zero-saved valid.zero-control valid.zero-thread valid.clash valid.clear-of valid.apart valid.thread-right valid.threads-right valid.valid
+    valid.sized valid.shaped valid.place-right valid.unused-zero valid.aligned valid.cr-small valid.fields-small valid.no-line valid.holds-nothing valid.live-rules valid.state-rules valid.indices-inside valid.line-inside valid.lines-inside valid.unlike valid.distinct valid.logs-line valid.line-logged valid.writes-logged valid.marked-right valid.marks-right valid.held-right valid.thread-valid valid.zero-gpr valid.zero-cr valid.zero-msr valid.zero-failure valid.zero-saved valid.zero-control valid.zero-thread valid.clash valid.clear-of valid.apart valid.thread-right valid.threads-right valid.valid
     bad-thing turned-down refused-there refused-later hits struck strike others perform met all-met told-valid
 computed = true
 

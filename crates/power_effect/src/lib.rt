@@ -118,7 +118,20 @@ pub fn effect(
         }
         Event::Mfspr { rt, spr } => quiet(power_special::mfspr(gpr, words, rt, spr)),
         Event::Ld { rt, index } => {
-            load(gpr, cr, &*kgpr, &*kcr, words, &*ix, &*vl, &*mem, rt, index, 0, 8)
+            load(
+                gpr,
+                cr,
+                &*kgpr,
+                &*kcr,
+                words,
+                &*ix,
+                &*vl,
+                &*mem,
+                rt,
+                index,
+                0,
+                8,
+            )
         }
         Event::Std { ra, index } => {
             let v = gpr[ra as usize];
@@ -134,13 +147,49 @@ pub fn effect(
             quiet(power_returns::mtmsrd(gpr, cr, &*kgpr, &*kcr, words, asked))
         }
         Event::Lbz { rt, address } => {
-            narrow::load(gpr, cr, &*kgpr, &*kcr, words, &*ix, &*vl, &*mem, 1, rt, address)
+            narrow::load(
+                gpr,
+                cr,
+                &*kgpr,
+                &*kcr,
+                words,
+                &*ix,
+                &*vl,
+                &*mem,
+                1,
+                rt,
+                address,
+            )
         }
         Event::Lhz { rt, address } => {
-            narrow::load(gpr, cr, &*kgpr, &*kcr, words, &*ix, &*vl, &*mem, 2, rt, address)
+            narrow::load(
+                gpr,
+                cr,
+                &*kgpr,
+                &*kcr,
+                words,
+                &*ix,
+                &*vl,
+                &*mem,
+                2,
+                rt,
+                address,
+            )
         }
         Event::Lwz { rt, address } => {
-            narrow::load(gpr, cr, &*kgpr, &*kcr, words, &*ix, &*vl, &*mem, 4, rt, address)
+            narrow::load(
+                gpr,
+                cr,
+                &*kgpr,
+                &*kcr,
+                words,
+                &*ix,
+                &*vl,
+                &*mem,
+                4,
+                rt,
+                address,
+            )
         }
         Event::Stb { ra, address } => {
             let v = gpr[ra as usize];

@@ -80,6 +80,11 @@ fn accesses(word: &[u8], r: u8, index: u32) {
     with(b", ", index as u64);
 }
 
+fn addressed(word: &[u8], r: u8, address: u32) {
+    register(word, r);
+    with(b", address ", address as u64);
+}
+
 fn mtspr(spr: u8, ra: u8) {
     with(b"mtspr ", spr as u64);
     register(b", ", ra);
@@ -126,6 +131,12 @@ fn event(e: Event) {
         Event::Host { pr, tm } => host(pr, tm),
         Event::Rfid => say(b"rfid"),
         Event::Mtmsrd { t, s, tm, pr } => mtmsrd(t, s, tm, pr),
+        Event::Lbz { rt, address } => addressed(b"lbz ", rt, address),
+        Event::Lhz { rt, address } => addressed(b"lhz ", rt, address),
+        Event::Lwz { rt, address } => addressed(b"lwz ", rt, address),
+        Event::Stb { ra, address } => addressed(b"stb ", ra, address),
+        Event::Sth { ra, address } => addressed(b"sth ", ra, address),
+        Event::Stw { ra, address } => addressed(b"stw ", ra, address),
         Event::Tlbie { page } => with(b"tlbie page ", page as u64),
     }
 }
@@ -144,7 +155,7 @@ fn malformed(n: u8, first: u8, kind: u8) {
     }
     with(b"kind ", kind as u64);
     if n == answer::NO_KIND {
-        say(b", not 1 to 19 or 26");
+        say(b", not 1 to 26");
     }
 }
 

@@ -10,7 +10,9 @@
 //     4 checkpoint's register  11 TDOOMED                          18 log's index at a place
 //     5 live CR field          12 TFHAR                            19 log's value at a place
 //     6 checkpoint's CR field  13 TFIAR                            20 a log of as many places as byte 3 says, from an index on, each with the value
-//    21 SRR0                   22 SRR1
+//    21 SRR0                   22 SRR1                             23 log's marks at a place
+//
+// 18, 19 and 20 mark all bytes of the places that they set.
 pub mod text;
 
 use lines::LineSet;
@@ -144,10 +146,14 @@ fn word(s: LineSet, i: usize, v: u64) -> LineSet {
     r
 }
 
-fn log(x: Transaction, i: usize, index: u32, value: u64) -> Transaction {
+fn log(x: Transaction, i: usize, index: u32, marks: u8, value: u64) -> Transaction {
     let mut y = x;
     if i < 64 {
-        y.log[i] = Entry { index, value };
+        y.log[i] = Entry {
+            index,
+            marks,
+            value,
+        };
     }
     y
 }
@@ -158,9 +164,12 @@ fn entry(x: Transaction, field: u8, i: usize, v: u64) -> Transaction {
     }
     let e = x.log[i];
     if field == 18 {
-        return log(x, i, low_half(v), e.value);
+        return log(x, i, low_half(v), 255, e.value);
     }
-    log(x, i, e.index, v)
+    if field == 19 {
+        return log(x, i, e.index, 255, v);
+    }
+    log(x, i, e.index, low_byte(v), e.value)
 }
 
 // A log of n places, from an index on.
@@ -171,6 +180,7 @@ fn run(x: Transaction, n: usize, from: u64, v: u64) -> Transaction {
             y,
             i,
             low_half(std::num::wrapping_add_u64(from, i as u64)),
+            255,
             v,
         );
         y = z;
@@ -226,13 +236,13 @@ fn thread(t: Thread, b: [u8; 16], v: u64) -> Thread {
         return registers(t, field, i, v);
     }
     let mut u = t;
-    if (field < 15) | (20 < field) {
+    if (field < 15) | ((20 < field) & (field != 23)) {
         let k = control(t.control, field, v);
         u.control = k;
         return u;
     }
     let x = t.transaction;
-    if field < 20 {
+    if field != 20 {
         let y = held(x, field, i, v);
         u.transaction = y;
         return u;

@@ -5,7 +5,7 @@
 //     nia pr tm state doomed            state: 0 is N, 1 T, 2 S
 //     tfhar tfiar texasr srr0 srr1
 //     reads0 .. reads3, writes0 ..      the words of the line sets
-//     used, index0, value0, index1 ..   the log
+//     used, index0, marks0, value0 ..   the log; marks where not all bytes of a place are marked that is not all zero
 //
 // Memory follows as mem[I]=HEX, and the thread count as count=HEX.
 use base::bit;
@@ -15,6 +15,7 @@ use thread::Control;
 use thread::Registers;
 use thread::State;
 use thread::Thread;
+use transaction::Entry;
 use transaction::Transaction;
 
 fn head(w: usize, name: &[u8]) {
@@ -94,10 +95,24 @@ fn words(w: usize, name: &[u8], s: LineSet) {
     }
 }
 
+// The marks of a place, unless all bytes are marked. Marks that are 0 are shown where the place holds anything else.
+fn marks(w: usize, i: usize, e: Entry) {
+    if e.marks == 255 {
+        return;
+    }
+    if (e.marks == 0) & (e.index == 0) & (e.value == 0) {
+        return;
+    }
+    head(w, b"marks");
+    io::print_decimal(1, i as u64);
+    value(e.marks as u64);
+}
+
 fn log(w: usize, x: Transaction) {
     for i in 0..64 {
         let e = x.log[i];
         place(w, b"index", i, e.index as u64);
+        marks(w, i, e);
         place(w, b"value", i, e.value);
     }
 }

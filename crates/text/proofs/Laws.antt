@@ -108,7 +108,7 @@ lines-from k given h =
 -- which is valid over its memory
 pub fresh-valid : valid.valid fresh most-memory ≡ true
 unfolding all-below any-below lineset.place lineset.empty lineset.has lineset.meets transaction.empty fresh fresh-thread
-    valid.sized valid.shaped valid.place-right valid.unused-zero valid.aligned valid.cr-small valid.fields-small valid.no-line valid.holds-nothing valid.state-rules valid.indices-inside valid.line-inside valid.lines-inside valid.distinct valid.logs-line valid.line-logged valid.writes-logged valid.held-right valid.thread-valid valid.clash valid.clear-of valid.apart valid.thread-right valid.threads-right valid.valid
+    valid.sized valid.shaped valid.place-right valid.unused-zero valid.aligned valid.cr-small valid.fields-small valid.no-line valid.holds-nothing valid.state-rules valid.indices-inside valid.line-inside valid.lines-inside valid.distinct valid.logs-line valid.line-logged valid.writes-logged valid.marked-right valid.marks-right valid.held-right valid.thread-valid valid.clash valid.clear-of valid.apart valid.thread-right valid.threads-right valid.valid
 fresh-valid = refl
 
 -- an answer for each record done, and one more where there is a record more
