@@ -1,0 +1,14 @@
+//! A workbench for lock writers: tapes written by hand, read, watched and seen.
+//!
+//! These are the verbs of the command, `./naszeptan VERB ..`. All that a machine
+//! does is the proved archive's doing; nothing here is a rule.
+
+#![deny(unsafe_code)]
+
+pub mod failed;
+pub mod files;
+pub mod nearest;
+pub mod story;
+pub mod told;
+pub mod verbs;
+pub mod words;

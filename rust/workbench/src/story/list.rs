@@ -1,0 +1,39 @@
+//! A tape told as a story, in the canonical form.
+
+use std::fmt::Write;
+
+use naszeptan::{Edition, Event, RECORD_SIZE};
+
+use crate::told;
+
+/// A line for each record, each ended. A record that is none is told by its
+/// bytes, with the number that refuses it behind. With `numbered`, the record's
+/// index stands behind each as a comment.
+pub fn list(tape: &[u8], numbered: bool) -> String {
+    let mut text = String::new();
+    for (index, record) in tape.chunks(RECORD_SIZE).enumerate() {
+        let (line, comment) = line(record);
+        let index = numbered.then(|| index.to_string());
+        let comments: Vec<String> = index.into_iter().chain(comment).collect();
+        let written = match comments.is_empty() {
+            true => writeln!(text, "{line}"),
+            false => writeln!(text, "{line:<36}  # {}", comments.join(": ")),
+        };
+        written.expect("a string takes all");
+    }
+    text
+}
+
+/// A record's line, and the number that refuses it in words.
+fn line(record: &[u8]) -> (String, Option<String>) {
+    match Event::read_in(Edition::Three, record) {
+        Ok((thread, event)) => (format!("thread {thread}  {event}"), None),
+        Err(refused) => (bytes(record), Some(told::refused(refused, record))),
+    }
+}
+
+/// A record by its bytes.
+pub fn bytes(record: &[u8]) -> String {
+    let bytes = record.iter().map(|byte| format!(" {byte:02X}"));
+    "bytes".to_string() + &bytes.collect::<String>()
+}
