@@ -2,7 +2,7 @@
 
 use std::ffi::OsStr;
 use std::fs::{self, File};
-use std::io::{self, Read, Write};
+use std::io::{self, IsTerminal, Read, Write};
 use std::path::Path;
 
 use crate::failed::{io_failed, mistake, Failed};
@@ -24,6 +24,12 @@ pub fn is_story(name: &OsStr) -> bool {
 /// Opens a file for reading.
 pub fn open(name: &OsStr) -> Result<Box<dyn Read>, Failed> {
     if name == "-" {
+        if io::stdin().is_terminal() {
+            let _ = writeln!(
+                io::stderr(),
+                "naszeptan: waiting for standard input; ctrl-D ends it"
+            );
+        }
         return Ok(Box::new(io::stdin().lock()));
     }
     let what = called(name, "standard input");
@@ -32,6 +38,16 @@ pub fn open(name: &OsStr) -> Result<Box<dyn Read>, Failed> {
     }
     let file = File::open(name).map_err(|why| io_failed(&what, &why))?;
     Ok(Box::new(file))
+}
+
+/// Reads once; a read that a signal broke off is tried again.
+pub fn read_once(from: &mut dyn Read, piece: &mut [u8]) -> io::Result<usize> {
+    loop {
+        match from.read(piece) {
+            Err(why) if why.kind() == io::ErrorKind::Interrupted => continue,
+            read => return read,
+        }
+    }
 }
 
 /// All bytes of a file.

@@ -7,7 +7,9 @@
 
 pub mod failed;
 pub mod files;
+pub mod json;
 pub mod nearest;
+pub mod run;
 pub mod story;
 pub mod told;
 pub mod verbs;

@@ -5,6 +5,7 @@ use std::ffi::OsString;
 use crate::failed::{mistake, Ended};
 use crate::files;
 use crate::nearest::meant;
+use crate::run;
 use crate::story::list;
 use crate::words::Takes;
 
@@ -18,9 +19,10 @@ pub struct Verb {
 }
 
 /// All of them.
-pub const VERBS: [Verb; 2] = [
+pub const VERBS: [Verb; 3] = [
     verb("asm", include_str!("../help/asm.txt"), asm),
     verb("list", include_str!("../help/list.txt"), list),
+    verb("run", include_str!("../help/run.txt"), run::run),
 ];
 
 const fn verb(name: &'static str, help: &'static str, run: fn(&[OsString]) -> Ended) -> Verb {

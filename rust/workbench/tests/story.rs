@@ -221,7 +221,7 @@ fn mistakes_in_a_record() {
         ("thread x", "8: expected a thread, 0 to 255, found \"x\""),
         ("thread 256 rfid", "8: expected a thread, 0 to 255, found \"256\""),
         ("thread 0", "9: expected an instruction, found the end of the line"),
-        ("thread 0 tbegn.", "10: expected an instruction; is tbegin. meant?, found \"tbegn.\""),
+        ("thread 0 tbegn.", "10: expected an instruction, found \"tbegn.\"; is tbegin. meant?"),
         ("thread 0 nop", "10: expected an instruction, found \"nop\""),
         ("thread 0 std", "13: expected a register, r0 to r255, found the end of the line"),
         ("thread 0 std 3, 17", "14: expected a register, r0 to r255, found \"3\""),
@@ -263,7 +263,7 @@ fn mistakes_in_a_record() {
         wrong("thread 0 ld r3, lokc"),
         format!("1:17: expected {place}, found \"lokc\"")
     );
-    let near = format!("2:17: expected {place}; is lock meant?, found \"lokc\"");
+    let near = format!("2:17: expected {place}, found \"lokc\"; is lock meant?");
     assert_eq!(wrong("lock = 0\nthread 0 ld r3, lokc"), near);
 }
 

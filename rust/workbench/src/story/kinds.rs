@@ -5,7 +5,6 @@ use naszeptan::{raw, Kind, Operand, KINDS};
 
 use super::line::{number, Line};
 use super::{Names, Wrong};
-use crate::nearest::meant;
 
 /// Another name for some of a kind's events, as assemblers have it.
 struct Alias {
@@ -84,14 +83,13 @@ pub fn event(line: &mut Line, thread: u8, names: &Names) -> Result<raw::Event, W
 type Named = (&'static Kind, &'static [(usize, u32)]);
 
 fn instruction(line: &mut Line) -> Result<Named, Wrong> {
-    let found = line.peek().map_or("", |token| token.text);
-    let expected = format!("an instruction{}", meant(found, instructions()));
-    line.read(expected, |name| {
+    let named = line.read("an instruction", |name| {
         let alias = ALIASES.iter().find(|alias| alias.name == name);
         let (name, sets) = alias.map_or((name, &[][..]), |alias| (alias.of, alias.sets));
         let kind = KINDS.iter().find(|kind| kind.name == name)?;
         Some((kind, sets))
-    })
+    });
+    named.map_err(|wrong| wrong.near(instructions()))
 }
 
 /// Operands in their order, a comma between two.
@@ -229,9 +227,6 @@ fn immediate(line: &mut Line) -> Result<u32, Wrong> {
 /// A doubleword: a number, a name, or `line` and its number; and perhaps how
 /// many doublewords behind it.
 pub fn place(line: &mut Line, names: &Names) -> Result<u32, Wrong> {
-    let known = names.places.iter().map(|(name, ..)| name.as_str());
-    let found = line.peek().map_or("", |token| token.text);
-    let near = meant(found, known);
     let at = line.clone();
     let first = if line.take("line") {
         let lines = u64::from(u32::MAX) / u64::from(super::LINE);
@@ -239,10 +234,11 @@ pub fn place(line: &mut Line, names: &Names) -> Result<u32, Wrong> {
         line.read(expected, |text| number(text).filter(|line| *line <= lines))?
             * u64::from(super::LINE)
     } else {
-        let expected = format!("a place: a number, a name, or line and its number{near}");
-        line.read(expected, |text| {
-            names.place(text).map(u64::from).or_else(|| number(text))
-        })?
+        let expected = "a place: a number, a name, or line and its number";
+        let value = |text: &str| names.place(text).map(u64::from).or_else(|| number(text));
+        let known = names.places.iter().map(|(name, ..)| name.as_str());
+        let read = line.read(expected, value);
+        read.map_err(|wrong| wrong.near(known))?
     };
     let behind = match line.take("+") {
         true => line.read("a number", number)?,

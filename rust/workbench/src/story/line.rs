@@ -119,6 +119,7 @@ impl<'a> Line<'a> {
             column,
             expected: expected.into(),
             found,
+            hint: String::new(),
         }
     }
 }

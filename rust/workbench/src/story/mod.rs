@@ -21,6 +21,8 @@ pub mod list;
 
 use std::fmt;
 
+use crate::nearest::meant;
+
 /// A story that was read: the tape, and the names that people use for it.
 #[derive(Clone, Debug, Default, PartialEq, Eq)]
 pub struct Story {
@@ -109,6 +111,16 @@ pub struct Wrong {
     pub expected: String,
     /// What stands there.
     pub found: String,
+    /// What was meant, perhaps.
+    pub hint: String,
+}
+
+impl Wrong {
+    /// With the nearest of the words that could have stood there.
+    pub fn near<'a>(mut self, all: impl IntoIterator<Item = &'a str>) -> Wrong {
+        self.hint = meant(self.found.trim_matches('"'), all);
+        self
+    }
 }
 
 impl fmt::Display for Wrong {
@@ -118,8 +130,12 @@ impl fmt::Display for Wrong {
             column,
             expected,
             found,
+            hint,
         } = self;
-        write!(f, "{line}:{column}: expected {expected}, found {found}")
+        write!(
+            f,
+            "{line}:{column}: expected {expected}, found {found}{hint}"
+        )
     }
 }
 
