@@ -5,11 +5,14 @@
 
 #![deny(unsafe_code)]
 
+pub mod changes;
 pub mod failed;
 pub mod files;
 pub mod json;
 pub mod nearest;
+pub mod play;
 pub mod run;
+pub mod show;
 pub mod story;
 pub mod told;
 pub mod verbs;

@@ -5,9 +5,9 @@ use std::ffi::OsString;
 use crate::failed::{mistake, Ended};
 use crate::files;
 use crate::nearest::meant;
-use crate::run;
 use crate::story::list;
 use crate::words::Takes;
+use crate::{run, show};
 
 /// A verb.
 pub struct Verb {
@@ -19,10 +19,12 @@ pub struct Verb {
 }
 
 /// All of them.
-pub const VERBS: [Verb; 3] = [
+pub const VERBS: [Verb; 5] = [
     verb("asm", include_str!("../help/asm.txt"), asm),
     verb("list", include_str!("../help/list.txt"), list),
     verb("run", include_str!("../help/run.txt"), run::run),
+    verb("show", include_str!("../help/show.txt"), show::show),
+    verb("diff", include_str!("../help/diff.txt"), show::diff),
 ];
 
 const fn verb(name: &'static str, help: &'static str, run: fn(&[OsString]) -> Ended) -> Verb {

@@ -2,8 +2,9 @@
 
 use std::fmt::Write;
 
-use naszeptan::{Edition, Event, RECORD_SIZE};
+use naszeptan::{Edition, Event, Kind, Operand, RECORD_SIZE};
 
+use super::Names;
 use crate::told;
 
 /// A line for each record, each ended. A record that is none is told by its
@@ -29,6 +30,25 @@ fn line(record: &[u8]) -> (String, Option<String>) {
     match Event::read_in(Edition::Three, record) {
         Ok((thread, event)) => (format!("thread {thread}  {event}"), None),
         Err(refused) => (bytes(record), Some(told::refused(refused, record))),
+    }
+}
+
+/// A record's line, with the name of the doubleword that it is about.
+pub fn named(thread: u8, event: Event, names: &Names) -> String {
+    let text = format!("thread {thread}  {event}");
+    let name = index(event).and_then(|index| names.called(index));
+    match (name, text.rsplit_once(' ')) {
+        (Some(name), Some((before, _))) => format!("{before} {name}"),
+        _ => text,
+    }
+}
+
+/// The doubleword that an event is about, its last operand; none of other events.
+pub fn index(event: Event) -> Option<u32> {
+    let kind = Kind::of(event.kind())?;
+    match kind.operands.last() {
+        Some(operand @ Operand::Index) => Some(operand.value(event.to_raw(0))),
+        _ => None,
     }
 }
 
