@@ -14,6 +14,7 @@ pub mod play;
 pub mod run;
 pub mod show;
 pub mod story;
+pub mod timeline;
 pub mod told;
 pub mod verbs;
 pub mod words;

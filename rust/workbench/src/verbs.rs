@@ -7,7 +7,7 @@ use crate::files;
 use crate::nearest::meant;
 use crate::story::list;
 use crate::words::Takes;
-use crate::{run, show};
+use crate::{run, show, timeline};
 
 /// A verb.
 pub struct Verb {
@@ -19,12 +19,17 @@ pub struct Verb {
 }
 
 /// All of them.
-pub const VERBS: [Verb; 5] = [
+pub const VERBS: [Verb; 6] = [
     verb("asm", include_str!("../help/asm.txt"), asm),
     verb("list", include_str!("../help/list.txt"), list),
     verb("run", include_str!("../help/run.txt"), run::run),
     verb("show", include_str!("../help/show.txt"), show::show),
     verb("diff", include_str!("../help/diff.txt"), show::diff),
+    verb(
+        "timeline",
+        include_str!("../help/timeline.txt"),
+        timeline::timeline,
+    ),
 ];
 
 const fn verb(name: &'static str, help: &'static str, run: fn(&[OsString]) -> Ended) -> Verb {

@@ -29,7 +29,7 @@ impl Reader {
                 break;
             }
             let label = name(&mut line, &self.story.names, "a label")?;
-            line.next();
+            line.pass();
             let record = self.story.bytes.len().div_ceil(RECORD_SIZE);
             self.story.names.labels.push((label, record, number));
         }
@@ -44,7 +44,7 @@ impl Reader {
 
     fn definition(&mut self, line: &mut Line, number: usize) -> Result<(), Wrong> {
         let name = name(line, &self.story.names, "a name")?;
-        line.next();
+        line.pass();
         let place = kinds::place(line, &self.story.names)?;
         line.end()?;
         self.story.names.places.push((name, place, number));
@@ -53,7 +53,7 @@ impl Reader {
 
     fn thread(&mut self, line: &mut Line) -> Result<(), Wrong> {
         let at = line.clone();
-        line.next();
+        line.pass();
         let thread = line.read("a thread, 0 to 255", |text| {
             u8::try_from(number(text)?).ok()
         })?;
@@ -69,7 +69,7 @@ impl Reader {
 
     fn bytes(&mut self, line: &mut Line) -> Result<(), Wrong> {
         let at = line.clone();
-        line.next();
+        line.pass();
         let mut record = Vec::new();
         while record.is_empty() || line.peek().is_some() {
             if record.len() == RECORD_SIZE {

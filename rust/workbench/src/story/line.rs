@@ -63,11 +63,9 @@ impl<'a> Line<'a> {
         self.tokens.get(self.taken + behind).copied()
     }
 
-    /// The next token.
-    pub fn next(&mut self) -> Option<Token<'a>> {
-        let token = self.peek()?;
+    /// Passes over the next token.
+    pub fn pass(&mut self) {
         self.taken += 1;
-        Some(token)
     }
 
     /// Takes this sign or word, if it is next.

@@ -52,6 +52,12 @@ pub fn index(event: Event) -> Option<u32> {
     }
 }
 
+/// Whether an event that is about a doubleword stores to it.
+pub fn stores(event: Event) -> bool {
+    let kind = Kind::of(event.kind());
+    kind.is_some_and(|kind| kind.operands.first() == Some(&Operand::Ra))
+}
+
 /// A record by its bytes.
 pub fn bytes(record: &[u8]) -> String {
     let bytes = record.iter().map(|byte| format!(" {byte:02X}"));
