@@ -6,6 +6,7 @@
 #![deny(unsafe_code)]
 
 pub mod changes;
+pub mod check;
 pub mod failed;
 pub mod files;
 pub mod json;

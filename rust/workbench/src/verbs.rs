@@ -7,7 +7,7 @@ use crate::files;
 use crate::nearest::meant;
 use crate::story::list;
 use crate::words::Takes;
-use crate::{run, show, timeline};
+use crate::{check, run, show, timeline};
 
 /// A verb.
 pub struct Verb {
@@ -19,7 +19,7 @@ pub struct Verb {
 }
 
 /// All of them.
-pub const VERBS: [Verb; 6] = [
+pub const VERBS: [Verb; 7] = [
     verb("asm", include_str!("../help/asm.txt"), asm),
     verb("list", include_str!("../help/list.txt"), list),
     verb("run", include_str!("../help/run.txt"), run::run),
@@ -30,6 +30,7 @@ pub const VERBS: [Verb; 6] = [
         include_str!("../help/timeline.txt"),
         timeline::timeline,
     ),
+    verb("check", include_str!("../help/check.txt"), check::check),
 ];
 
 const fn verb(name: &'static str, help: &'static str, run: fn(&[OsString]) -> Ended) -> Verb {
