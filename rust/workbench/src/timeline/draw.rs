@@ -197,7 +197,7 @@ impl Picture<'_> {
         for (n, column) in history.columns[first..last].iter().enumerate() {
             self.mark(column, Self::middle(n));
             for end in &column.ends {
-                self.end(column, end, Self::middle(n));
+                self.end(end, Self::middle(n));
             }
         }
         end
@@ -332,8 +332,8 @@ impl Picture<'_> {
     }
 
     /// How a transaction ended, on its bar, and why beside it.
-    fn end(&mut self, column: &Column, end: &End, x: f64) {
-        let Lane { top, bar, .. } = self.lane(end.thread);
+    fn end(&mut self, end: &End, x: f64) {
+        let Lane { bar, .. } = self.lane(end.thread);
         let middle = bar + HIGH / 2.0;
         let (path, colour, word) = match end.fate {
             Fate::Committed => ("M-7,0 L-2,6 L8,-7", "#1d7a46", "commit"),
@@ -353,12 +353,7 @@ impl Picture<'_> {
             _ => "cause",
         };
         let words = end.cause.as_deref().unwrap_or(word);
-        // An arrow that comes from above has its cause above the bar.
-        let y = match self.lane(column.mark.thread).top < top {
-            true => top + 6.0,
-            false => bar + HIGH + 16.0,
-        };
-        self.words((x, y), class, words);
+        self.words((x, bar + HIGH + 16.0), class, words);
     }
 
     /// Words beside a column's middle, one below the other.

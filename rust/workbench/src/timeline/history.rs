@@ -1,6 +1,6 @@
 //! What a picture shows of a tape, record by record: a column for each.
 
-use naszeptan::{Answer, Cause, Event, State, Thread};
+use naszeptan::{Answer, Cause, Event, State, Thread, Ts};
 
 use crate::play::{Play, Sight, Step};
 use crate::show::Range;
@@ -226,6 +226,17 @@ fn short(event: Event, last: &str) -> (String, String) {
         Event::Tbegin { r: false } | Event::Tend { a: false } => (name, String::new()),
         Event::Tbegin { r: true } => (name, "R=1 (ROT)".to_string()),
         Event::Mtspr { spr, .. } | Event::Mfspr { spr, .. } => (name, spr_name(spr)),
+        Event::Addi { rt, ra: 0, si } => ("li", format!("r{rt}, {}", si as i16)),
+        Event::Mtmsrd { ts, tm, pr } => {
+            let state = match ts {
+                Ts::None => "11".to_string(),
+                ts => format!("{ts:?}"),
+            };
+            (
+                name,
+                format!("{state} TM={} PR={}", u8::from(tm), u8::from(pr)),
+            )
+        }
         _ if list::index(event).is_some() => (name, last.to_string()),
         _ => (name, operands.to_string()),
     };
