@@ -9,7 +9,7 @@ const COLUMN: f64 = 80.0;
 /// Room for the threads' names, left of the first column.
 const LEFT: f64 = 82.0;
 /// Room right of the last column.
-const RIGHT: f64 = 24.0;
+const RIGHT: f64 = 64.0;
 /// Height of a lane, and of one in which nothing happens.
 const LANE: f64 = 122.0;
 const IDLE: f64 = 40.0;
@@ -68,8 +68,11 @@ struct Picture<'a> {
     lines: Vec<u32>,
 }
 
-/// Draws a history, so many columns in a window.
+/// Draws a history, at most so many columns in a window.
 pub fn draw(history: &History, title: &str, outcome: &str, columns: usize) -> String {
+    // As many in each window, so that the last is no remnant.
+    let windows = history.columns.len().div_ceil(columns).max(1);
+    let columns = history.columns.len().div_ceil(windows).max(1);
     let mut picture = Picture {
         svg: Svg::default(),
         history,
@@ -80,7 +83,7 @@ pub fn draw(history: &History, title: &str, outcome: &str, columns: usize) -> St
     let widest = columns.min(history.columns.len()).max(8);
     let width = LEFT + widest as f64 * COLUMN + RIGHT;
     let mut top = HEAD;
-    for n in 0..history.columns.len().div_ceil(columns).max(1) {
+    for n in 0..windows {
         let first = n * columns;
         let last = (first + columns).min(history.columns.len());
         top = picture.window(first, last, top, width) + BETWEEN;
@@ -280,8 +283,11 @@ impl Picture<'_> {
         let mark = &column.mark;
         let Lane { top: y, bar, .. } = self.lane(mark.thread);
         self.svg.open(&mark.words);
-        self.svg
-            .text((x, y + 13.0), Anchor::Middle, "name", &mark.name);
+        let name = match mark.access {
+            Some((line, _)) => format!("{} line {line}", mark.name),
+            None => mark.name.clone(),
+        };
+        self.svg.text((x, y + 13.0), Anchor::Middle, "name", &name);
         match mark.access {
             Some((line, store)) => self.chip((x, y + 19.0), line, store, &mark.operand),
             None => self
@@ -292,9 +298,9 @@ impl Picture<'_> {
         self.svg.element("circle", &format!("{at} fill=\"#222\""));
         let number = column.answer.number();
         if number != 0 {
-            let below = (x - 7.0, bar + HIGH + 16.0);
+            let below = (x, bar + HIGH + 16.0);
             self.svg
-                .text(below, Anchor::End, "answer", &number.to_string());
+                .text(below, Anchor::Middle, "answer", &number.to_string());
         }
         if !column.answer.is_done() {
             let words = crate::told::words(column.answer);
