@@ -3,7 +3,7 @@
 //! These are the verbs of the command, `./naszeptan VERB ..`. All that a machine
 //! does is the proved archive's doing; nothing here is a rule.
 
-#![deny(unsafe_code)]
+#![deny(missing_docs, unsafe_code)]
 
 pub mod changes;
 pub mod check;

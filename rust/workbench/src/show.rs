@@ -2,10 +2,10 @@
 //! part first.
 
 use std::ffi::OsString;
-use std::fmt::Write;
+use std::io::{self, BufWriter, Write};
 
 use crate::changes::{self, changes, lines, without, Change, How};
-use crate::failed::{mistake, Ended, Failed};
+use crate::failed::{io_failed, mistake, Ended, Failed};
 use crate::files;
 use crate::play::{Play, Sight, Step};
 use crate::story::{list, Names, Story};
@@ -74,8 +74,12 @@ pub fn show(words: &[OsString]) -> Ended {
         thread: thread.map(|thread| thread as usize),
         all: words.has("--all"),
     };
-    let (text, stopped) = shown(&tape, range, &view);
-    files::print(text.as_bytes())?;
+    let mut out = BufWriter::new(io::stdout().lock());
+    let failed = |why| io_failed("standard output", &why);
+    let stopped = view.tell(&tape, range, &mut |text| {
+        out.write_all(text.as_bytes()).map_err(failed)
+    })?;
+    out.flush().map_err(failed)?;
     match stopped {
         None => Ok(0),
         Some(why) => Err(Failed { status: 1, why }),
@@ -93,37 +97,51 @@ pub fn text(tape: &Story) -> String {
         from: 0,
         to: usize::MAX,
     };
-    shown(tape, range, &view).0
-}
-
-/// The text, and why a record stopped the tape.
-fn shown(tape: &Story, range: Range, view: &View) -> (String, Option<String>) {
-    let mut play = Play::new(&tape.bytes);
-    play.skip_to(range.from);
-    let (mut text, mut last) = (String::new(), None);
-    while play.index() <= range.to {
-        let before = play.now.clone();
-        let Some(step) = play.step() else {
-            break;
-        };
-        text += &view.record(&step, &before, &play.now);
-        last = Some(step);
-    }
-    let stopped = play.stopped().map(|answer| {
-        let index = play.index() - 1;
-        let record = last.map(|step| step.record).unwrap_or_default();
-        match record.is_empty() {
-            true => format!(
-                "record {index}, before --from, stopped the tape: {}",
-                told::words(answer)
-            ),
-            false => format!("record {index}: {}", told::refused(answer, &record)),
-        }
-    });
-    (text, stopped)
+    let mut text = String::new();
+    let mut add = |part: &str| {
+        text.push_str(part);
+        Ok(())
+    };
+    let told = view.tell(tape, range, &mut add);
+    told.expect("a string takes all");
+    text
 }
 
 impl View<'_> {
+    /// Tells each record of a range, and gives why one stopped the tape.
+    fn tell(
+        &self,
+        tape: &Story,
+        range: Range,
+        out: &mut dyn FnMut(&str) -> Result<(), Failed>,
+    ) -> Result<Option<String>, Failed> {
+        let mut play = Play::new(&tape.bytes);
+        play.skip_to(range.from);
+        let mut last = None;
+        while play.index() <= range.to {
+            let before = play.now.clone();
+            let Some(step) = play.step() else {
+                break;
+            };
+            out(&self.record(&step, &before, &play.now))?;
+            last = Some(step);
+        }
+        Ok(play.stopped().map(|answer| match last {
+            Some(step) => format!(
+                "record {}: {}",
+                step.index,
+                told::refused(answer, &step.record)
+            ),
+            None => {
+                let (index, words) = (play.index() - 1, told::words(answer));
+                format!(
+                    "record {index}, before --from, stopped the tape: {}, {words}",
+                    answer.number()
+                )
+            }
+        }))
+    }
+
     /// A record, its answer, and what it changed.
     fn record(&self, step: &Step, before: &Sight, after: &Sight) -> String {
         let changes = changes(before, after, self.names);
@@ -156,28 +174,25 @@ impl View<'_> {
     }
 
     fn change(&self, change: &Change) -> String {
-        let mut text = subject(change);
-        let written = match &change.how {
+        let words = match &change.how {
             How::Value(before, after) if change.name == "TEXASR" => {
                 let before = before.split(' ').next().unwrap_or_default();
-                write!(text, " {after}, was {before}")
+                format!("{after}, was {before}")
             }
-            How::Value(before, after) => write!(text, " {after}, was {before}"),
+            How::Value(before, after) => format!("{after}, was {before}"),
             How::Lines(before, after) => {
-                let added = without(after, before);
-                let removed = without(before, after);
-                let mut parts = Vec::new();
-                if !added.is_empty() {
-                    parts.push(format!("line {} added", lines(&added, self.names)));
-                }
-                if !removed.is_empty() {
-                    parts.push(format!("line {} gone", lines(&removed, self.names)));
-                }
-                write!(text, " {}", parts.join(", "))
+                let sets = [
+                    (without(after, before), "added"),
+                    (without(before, after), "gone"),
+                ];
+                let sets = sets.iter().filter(|(set, _)| !set.is_empty());
+                let parts: Vec<String> = sets
+                    .map(|(set, word)| format!("line {} {word}", lines(set, self.names)))
+                    .collect();
+                parts.join(", ")
             }
         };
-        written.expect("a string takes all");
-        text
+        format!("{} {words}", subject(change))
     }
 }
 

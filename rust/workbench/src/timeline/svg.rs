@@ -8,11 +8,14 @@ pub struct Svg {
     body: String,
 }
 
-/// Where a text begins: at its place, around it, or before it.
+/// How a text lies to its place.
 #[derive(Clone, Copy)]
 pub enum Anchor {
+    /// It begins there.
     Start,
+    /// Its middle is there.
     Middle,
+    /// It ends there.
     End,
 }
 
