@@ -24,8 +24,28 @@ pub fn mistake(why: impl Into<String>) -> Failed {
 }
 
 /// A read or a write that failed, in the system's words without their number.
+/// Of a pipe that nobody reads it says what the command says.
 pub fn io_failed(what: &str, why: &io::Error) -> Failed {
+    if why.kind() == io::ErrorKind::BrokenPipe {
+        return mistake(format!("{what}: nobody reads it any more"));
+    }
     let why = why.to_string();
     let words = why.split(" (os error ").next().unwrap_or_default();
     mistake(format!("{what}: {words}"))
+}
+
+#[cfg(test)]
+mod tests {
+    use super::*;
+
+    #[test]
+    fn reads_and_writes_that_fail() {
+        for (number, words) in [
+            (28, "standard output: No space left on device"),
+            (32, "standard output: nobody reads it any more"),
+        ] {
+            let why = io::Error::from_raw_os_error(number);
+            assert_eq!(io_failed("standard output", &why), mistake(words));
+        }
+    }
 }
