@@ -202,4 +202,42 @@ impl Operand {
             Si => take(&mut fields.si).into(),
         }
     }
+
+    /// The operand's value in the fields of an event. A negative SI is given as
+    /// its 16 bits.
+    ///
+    /// ```
+    /// use naszeptan::{Event, Kind};
+    ///
+    /// let fields = Event::Std { ra: 3, index: 17 }.to_raw(0);
+    /// let values = Kind::of(13).unwrap().operands.iter().map(|o| o.value(fields));
+    /// assert!(values.eq([3, 17]));
+    /// ```
+    pub fn value(self, mut fields: raw::Event) -> u32 {
+        self.take(&mut fields)
+    }
+
+    /// Puts a value into the operand's field, which was 0; as many of its low
+    /// bits as the field has.
+    ///
+    /// ```
+    /// use naszeptan::{raw, Event, Kind};
+    ///
+    /// let mut fields = raw::Event { kind: 13, ..raw::Event::default() };
+    /// for (operand, value) in Kind::of(13).unwrap().operands.iter().zip([3, 17]) {
+    ///     operand.put(&mut fields, value);
+    /// }
+    /// assert_eq!(Event::from_raw(fields), Ok((0, Event::Std { ra: 3, index: 17 })));
+    /// ```
+    pub fn put(self, fields: &mut raw::Event, value: u32) {
+        match self {
+            Flag(_, weight) => fields.flags |= weight * (value & 1) as u8,
+            Ts => fields.flags |= value as u8 & 3,
+            To | Spr | Bf | Rt => fields.x = value as u8,
+            RtInRa | Ra | RaOrZero => fields.ra = value as u8,
+            Rb => fields.rb = value as u8,
+            Index | Page => fields.index = value,
+            Si => fields.si = value as u16,
+        }
+    }
 }
