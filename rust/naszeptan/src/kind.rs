@@ -236,7 +236,7 @@ impl Operand {
             To | Spr | Bf | Rt => fields.x = value as u8,
             RtInRa | Ra | RaOrZero => fields.ra = value as u8,
             Rb => fields.rb = value as u8,
-            Index | Page => fields.index = value,
+            Index | Address(_) | Page => fields.index = value,
             Si => fields.si = value as u16,
         }
     }

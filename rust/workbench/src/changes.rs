@@ -1,6 +1,6 @@
 //! Where two machines differ: each field by its name, before and after.
 
-use naszeptan::{Control, LineSet, Machine, Registers, Thread, Transaction};
+use naszeptan::{Control, Entry, LineSet, Machine, Registers, Thread, Transaction, ALL_MARKS};
 
 use crate::play::Sight;
 use crate::story::Names;
@@ -171,9 +171,19 @@ impl Found {
         }
         for index in places {
             let name = format!("log {}", place(index, names));
-            let shown = |value: Option<u64>| value.map_or("none".to_string(), hex);
+            let shown = |place: Option<&Entry>| place.map_or("none".to_string(), logged);
             self.value(name, before.logged(index), after.logged(index), shown);
         }
+    }
+}
+
+/// The value of a log place, and which bytes were stored where not all were.
+fn logged(place: &Entry) -> String {
+    let bytes = (0..8).filter(|byte| place.is_stored(*byte));
+    let bytes: Vec<String> = bytes.map(|byte| byte.to_string()).collect();
+    match place.marks {
+        ALL_MARKS => hex(place.value),
+        _ => format!("{} (bytes {})", hex(place.value), bytes.join(" ")),
     }
 }
 

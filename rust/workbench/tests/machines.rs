@@ -47,6 +47,7 @@ const POKES: [(&str, Poke); 19] = [
         transaction.count = 1;
         transaction.log[0] = Entry {
             index: 17,
+            marks: 0xFF,
             value: 0,
         };
     }),

@@ -199,6 +199,23 @@ fn a_context_switch() {
     assert_eq!((told.memory("data"), told.memory("a_r3")), (0, 3));
 }
 
+/// Whenever the auditor looks, the sum is 100.
+#[test]
+fn a_ledger() {
+    let told = told("ledger");
+    let failures: Vec<String> = told.failures().into_iter().map(|(_, who)| who).collect();
+    assert_eq!(failures, ["thread 0"]);
+    let read = |record: usize| {
+        let now = &told.steps[record].1;
+        (register(now, 1, 3), register(now, 1, 4))
+    };
+    assert_eq!((read(11), read(21)), ((100, 0), (70, 30)));
+    assert_eq!(told.memory("alice"), 70 << 32 | 30);
+    assert_eq!(told.last().memory[17], 7 << 32);
+    let log = told.steps[15].1.machine.threads[0].transaction.entries()[0];
+    assert_eq!((log.marks, log.value), (0xF0, 70 << 32));
+}
+
 /// No one but thread 0 ever has its value, and memory never has.
 #[test]
 fn the_mishap_of_version_one() {
@@ -272,7 +289,7 @@ fn what_is_kept_is_made_so() {
         .filter(|path| files::is_story(path.as_os_str()))
         .collect();
     names.sort();
-    assert_eq!(names.len(), 11);
+    assert_eq!(names.len(), 12);
     for path in names {
         let stem = path.file_stem().unwrap().to_str().unwrap();
         let story = read(&format!("stories/{stem}.story"));

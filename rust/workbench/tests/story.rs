@@ -173,6 +173,8 @@ thread 1  mfspr r6, 130
 thread 1  addi r5, 0, -1
 thread 1  mtmsrd TS=10, TM=0, PR=1
 thread 1  tlbie page 3
+thread 1  stw r5, address 148
+thread 1  lbz r5, address 17
 ";
     let story = "\
 # a story
@@ -191,6 +193,8 @@ thread 1 mfspr r6, TEXASR
 thread 1 addi r5, r0, 0xFFFF
 thread 1 mtmsrd PR=1, TS=10
 thread 1 tlbie page 0x3
+thread 1 stw r5, two+4
+thread 1 lbz r5, address 0x11
 end:
 ";
     let made = asm(story).unwrap();
@@ -199,12 +203,14 @@ end:
     let names = made.names;
     assert_eq!(names.label("again"), Some(1));
     assert_eq!(names.labels_at(3).collect::<Vec<_>>(), ["here", "there"]);
-    assert_eq!(names.label("end"), Some(11));
+    assert_eq!(names.label("end"), Some(13));
     assert_eq!((names.place("two"), names.place("three")), (Some(18), None));
     assert_eq!(names.called(0).as_deref(), Some("lock"));
     assert_eq!(names.called(17).as_deref(), Some("data+1"));
     assert_eq!(names.called(18).as_deref(), Some("two"));
     assert_eq!((names.called(32), names.line_called(2)), (None, None));
+    assert_eq!(names.byte_called(148).as_deref(), Some("two+4"));
+    assert_eq!(names.byte_called(141).as_deref(), Some("data+13"));
     assert_eq!(names.line_called(1), Some("data"));
 }
 
@@ -250,6 +256,9 @@ fn mistakes_in_a_record() {
         ),
         ("thread 0 tlbie 3", "16: expected page and its number, found \"3\""),
         ("thread 0 rfid r1", "15: expected the end of the line, found \"r1\""),
+        ("thread 0 lwz r3, 4", "18: expected a byte: address and its number, a name, or line and its number, found \"4\""),
+        ("thread 0 lwz r3, address", "25: expected a byte's address, 0 to 4294967295, found the end of the line"),
+        ("thread 0 lwz r3, line 268435455", "18: expected a byte's address, 0 to 4294967295, found \"line\""),
         ("bytes", "6: expected a byte, two hexadecimal digits, found the end of the line"),
         ("bytes E3 D", "10: expected a byte, two hexadecimal digits, found \"D\""),
         (

@@ -118,7 +118,7 @@ fn is_name(text: &str) -> bool {
         text.strip_prefix(letters)
             .is_some_and(|n| number(n).is_some())
     };
-    let taken = ["thread", "bytes", "line", "page"].contains(&text)
+    let taken = ["thread", "bytes", "line", "page", "address"].contains(&text)
         || kinds::SPRS.iter().any(|(spr, _)| *spr == text)
         || numbered("r")
         || numbered("cr");

@@ -162,6 +162,7 @@ fn value(line: &mut Line, operand: Operand, names: &Names) -> Result<u32, Wrong>
         Operand::To => line.read("TO, 0 to 255", byte),
         Operand::Spr => spr(line),
         Operand::Index => place(line, names),
+        Operand::Address(_) => address(line, names),
         Operand::Page => {
             line.want("page", "page and its number")?;
             line.read("a page's number, 0 to 4294967295", word)
@@ -228,25 +229,57 @@ fn immediate(line: &mut Line) -> Result<u32, Wrong> {
 /// many doublewords behind it.
 pub fn place(line: &mut Line, names: &Names) -> Result<u32, Wrong> {
     let at = line.clone();
-    let first = if line.take("line") {
+    let expected = "a place: a number, a name, or line and its number";
+    let first = doubleword(line, names, expected, number)?;
+    summed(&at, first, behind(line)?, "a place, 0 to 4294967295")
+}
+
+/// A byte: `address` and its number; or the first of a name or a line, and
+/// perhaps how many bytes behind it.
+fn address(line: &mut Line, names: &Names) -> Result<u32, Wrong> {
+    if line.take("address") {
+        return line.read("a byte's address, 0 to 4294967295", word);
+    }
+    let at = line.clone();
+    let expected = "a byte: address and its number, a name, or line and its number";
+    let first = doubleword(line, names, expected, |_| None)?;
+    summed(
+        &at,
+        8 * first,
+        behind(line)?,
+        "a byte's address, 0 to 4294967295",
+    )
+}
+
+/// The doubleword of a name, of a line, or that a plain word means.
+fn doubleword(
+    line: &mut Line,
+    names: &Names,
+    expected: &str,
+    plain: fn(&str) -> Option<u64>,
+) -> Result<u64, Wrong> {
+    if line.take("line") {
         let lines = u64::from(u32::MAX) / u64::from(super::LINE);
         let expected = format!("a line's number, 0 to {lines}");
-        line.read(expected, |text| number(text).filter(|line| *line <= lines))?
-            * u64::from(super::LINE)
-    } else {
-        let expected = "a place: a number, a name, or line and its number";
-        let value = |text: &str| names.place(text).map(u64::from).or_else(|| number(text));
-        let known = names.places.iter().map(|(name, ..)| name.as_str());
-        let read = line.read(expected, value);
-        read.map_err(|wrong| wrong.near(known))?
-    };
-    let behind = match line.take("+") {
-        true => line.read("a number", number)?,
-        false => 0,
-    };
-    let whole = first.checked_add(behind).map(u32::try_from);
-    match whole {
-        Some(Ok(whole)) => Ok(whole),
-        _ => Err(at.wrong("a place, 0 to 4294967295")),
+        let read = line.read(expected, |text| number(text).filter(|line| *line <= lines));
+        return Ok(read? * u64::from(super::LINE));
     }
+    let value = |text: &str| names.place(text).map(u64::from).or_else(|| plain(text));
+    let known = names.places.iter().map(|(name, ..)| name.as_str());
+    let read = line.read(expected, value);
+    read.map_err(|wrong| wrong.near(known))
+}
+
+/// How many behind it, if that is said.
+fn behind(line: &mut Line) -> Result<u64, Wrong> {
+    match line.take("+") {
+        true => line.read("a number", number),
+        false => Ok(0),
+    }
+}
+
+fn summed(at: &Line, first: u64, behind: u64, expected: &str) -> Result<u32, Wrong> {
+    let whole = first.checked_add(behind);
+    let whole = whole.and_then(|whole| u32::try_from(whole).ok());
+    whole.ok_or_else(|| at.wrong(expected))
 }

@@ -33,21 +33,35 @@ fn line(record: &[u8]) -> (String, Option<String>) {
     }
 }
 
-/// A record's line, with the name of the doubleword that it is about.
+/// A record's line, with the name of the place that it is about.
 pub fn named(thread: u8, event: Event, names: &Names) -> String {
     let text = format!("thread {thread}  {event}");
-    let name = index(event).and_then(|index| names.called(index));
-    match (name, text.rsplit_once(' ')) {
-        (Some(name), Some((before, _))) => format!("{before} {name}"),
+    let name = match place(event) {
+        Some((Operand::Index, value)) => names.called(value),
+        Some((_, value)) => names.byte_called(value),
+        None => None,
+    };
+    match (name, text.rsplit_once(", ")) {
+        (Some(name), Some((before, _))) => format!("{before}, {name}"),
         _ => text,
     }
 }
 
-/// The doubleword that an event is about, its last operand; none of other events.
+/// The doubleword that an event is about; none of other events.
 pub fn index(event: Event) -> Option<u32> {
+    match place(event)? {
+        (Operand::Index, index) => Some(index),
+        (_, address) => Some(address / 8),
+    }
+}
+
+/// An event's last operand, if it is a place in memory, and its value.
+fn place(event: Event) -> Option<(Operand, u32)> {
     let kind = Kind::of(event.kind())?;
     match kind.operands.last() {
-        Some(operand @ Operand::Index) => Some(operand.value(event.to_raw(0))),
+        Some(operand @ (Operand::Index | Operand::Address(_))) => {
+            Some((*operand, operand.value(event.to_raw(0))))
+        }
         _ => None,
     }
 }

@@ -74,16 +74,25 @@ impl Names {
         all.find(|(known, _)| *known == name).map(|found| found.1)
     }
 
-    /// What a doubleword is called: its name, or the nearest name before it in
-    /// its line and how far behind, or nothing.
-    pub fn called(&self, index: u32) -> Option<String> {
+    /// The nearest name at or before a doubleword in its line, and how many
+    /// doublewords behind that it is.
+    pub fn near(&self, index: u32) -> Option<(&str, u32)> {
         let near = |place: u32| place <= index && place / LINE == index / LINE;
         let places = self.places.iter().filter(|(_, place, _)| near(*place));
         let (name, place, _) = places.max_by_key(|(_, place, line)| (*place, usize::MAX - line))?;
-        Some(match index - place {
-            0 => name.clone(),
-            behind => format!("{name}+{behind}"),
-        })
+        Some((name, index - place))
+    }
+
+    /// What a doubleword is called: its name, or the nearest name before it in
+    /// its line and how far behind, or nothing.
+    pub fn called(&self, index: u32) -> Option<String> {
+        self.near(index).map(|(name, behind)| counted(name, behind))
+    }
+
+    /// What a byte is called: as a doubleword, with the bytes behind the name.
+    pub fn byte_called(&self, address: u32) -> Option<String> {
+        let near = self.near(address / 8);
+        near.map(|(name, behind)| counted(name, 8 * behind + address % 8))
     }
 
     /// What a line is called: the name of the first named doubleword in it.
@@ -94,6 +103,14 @@ impl Names {
             .filter(|(_, place, _)| place / LINE == line);
         let (name, ..) = inside.min_by_key(|(_, place, line)| (*place, *line))?;
         Some(name)
+    }
+}
+
+/// A name, and how many behind it.
+fn counted(name: &str, behind: u32) -> String {
+    match behind {
+        0 => name.to_string(),
+        behind => format!("{name}+{behind}"),
     }
 }
 

@@ -200,7 +200,7 @@ fn mark(tape: &Story, step: &Step) -> Mark {
     };
     let text = list::named(thread, event, &tape.names);
     let index = list::index(event);
-    let (name, operand) = short(event, text.rsplit_once(' ').map_or("", |(_, last)| last));
+    let (name, operand) = short(event, text.rsplit_once(", ").map_or("", |(_, last)| last));
     let line = index.map(|index| index / naszeptan::LINE as u32);
     Mark {
         thread: usize::from(thread),
