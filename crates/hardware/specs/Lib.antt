@@ -1,0 +1,4 @@
+pub mod Fields
+pub mod Table
+pub mod Render
+pub mod Judge
