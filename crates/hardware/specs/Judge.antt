@@ -13,6 +13,8 @@ use Rattle.hardware.specs.declared.Profile.{Profile}
 use Rattle.hardware.specs.declared.Verdict.{Verdict}
 use Rattle.hardware.specs.declared.Verdict.the-variants.{Equal, Allowed, Contradicts}
 use Rattle.hardware.specs.declared.Judged.{Judged}
+use Rattle.hardware.specs.declared.Registers.{Registers}
+use Rattle.hardware.specs.declared.Compared.{Compared}
 
 abbrev pub judgement : Verdict → ℕ → Judged
 judgement v bits = record { verdict = v; bits = bits }
@@ -69,12 +71,9 @@ addressed p b h =
 abbrev pub tfiar-care : Profile → ℕ → ℕ → ℕ
 tfiar-care p b h = bit (addressed p b h) * (2 ^ 64 - 4) + cond (may-be-late p b) 0 3
 
--- where TFIAR differs; it is compared where the cause is the same
+-- where TFIAR differs, for a failure by the same cause
 unfoldable pub tfiar-differing : (p : Profile) (x m h r : ℕ) → ℕ
-tfiar-differing p x m h r =
-    cond (eqb (told x) (told h) && leb 8 (told x))
-    (cond (hidden x m || hidden h r) 0 (bitAnd (bitXor r (tfiar p m)) (tfiar-care p (told x) h)))
-    0
+tfiar-differing p x m h r = cond (hidden x m || hidden h r) 0 (bitAnd (bitXor r (tfiar p m)) (tfiar-care p (told x) h))
 
 -- TFHAR, whose bits 62:63 are reserved (8.4.1); CR0, whose bit 3 is kept for later use (Book I 2.3.1)
 abbrev pub tfhar-differing : ℕ → ℕ → ℕ
@@ -82,3 +81,22 @@ tfhar-differing m r = bitAnd (bitXor r m) (2 ^ 64 - 4)
 
 abbrev pub cr0-differing : ℕ → ℕ → ℕ
 cr0-differing m r = bitAnd (bitXor r m) 0b1110
+
+-- all four registers: the other three count where both failed by the same cause
+abbrev pub alike : Registers → Registers → Bool
+alike m h = eqb (told (m .texasr)) (told (h .texasr)) && leb 8 (told (m .texasr))
+
+abbrev pub only : Judged → Compared
+only j = record { verdict = j .verdict; texasr = j .bits; tfiar = 0; tfhar = 0; cr0 = 0 }
+
+-- equal in TEXASR and not in another register: contradicts
+abbrev pub with-others : Judged → ℕ → ℕ → ℕ → Compared
+with-others j tfiar tfhar cr0 =
+    record { verdict = cond (eqb tfiar 0 && (eqb tfhar 0 && eqb cr0 0)) (j .verdict) Contradicts; texasr = j .bits; tfiar = tfiar; tfhar = tfhar; cr0 = cr0 }
+
+unfoldable pub compared : Profile → Registers → Registers → Compared
+compared p m h =
+    cond (alike m h)
+    (with-others (judged p (m .texasr) (h .texasr)) (tfiar-differing p (m .texasr) (m .tfiar) (h .texasr) (h .tfiar)) (tfhar-differing (m .tfhar) (h .tfhar))
+    (cr0-differing (m .cr0) (h .cr0)))
+    (only (judged p (m .texasr) (h .texasr)))

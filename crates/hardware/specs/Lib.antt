@@ -2,3 +2,4 @@ pub mod Fields
 pub mod Table
 pub mod Render
 pub mod Judge
+pub mod Raw

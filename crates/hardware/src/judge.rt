@@ -1,9 +1,11 @@
 // A value read on a processor, judged.
 ghost use mathlib.Core.Path.{_≡_};
-ghost use Prim.Native.Nat.{_<_, _^_};
-ghost use Rattle.hardware.specs.Judge.{judgement, differing, by-bits, may-differ, chosen, otherwise, judged, tfiar, hidden, addressed, tfiar-care, tfiar-differing, tfhar-differing, cr0-differing};
+ghost use mathlib.Core.Bool.{cond};
+ghost use Rattle.hardware.specs.Judge.{judgement, differing, by-bits, may-differ, chosen, otherwise, judged, tfiar, hidden, addressed, tfiar-care, tfiar-differing, tfhar-differing, cr0-differing, with-others, compared};
+use crate::Compared;
 use crate::Judged;
 use crate::Profile;
+use crate::Registers;
 use crate::Verdict;
 use crate::fields;
 use crate::render;
@@ -120,28 +122,69 @@ fn tfiar_care(p: Profile, b: u64, h: u64) -> u64
     address + 3
 }
 
-// Where a TFIAR read on hardware, r, differs from the model's, m; x and h are the TEXASRs.
-pub fn tfiar_differing(p: Profile, x: u64, m: u64, h: u64, r: u64) -> u64
+// Where a TFIAR read on hardware, r, differs from the model's, m; x and h are the TEXASRs, which tell the same cause.
+fn tfiar_differing(p: Profile, x: u64, m: u64, h: u64, r: u64) -> u64
     ensures { λ d. ⌜ d ≡ tfiar-differing p x m h r ⌝ }
 {
-    let b = fields::told(x);
-    if (b == fields::told(h)) & (8 <= b) {
-        if hidden(x, m) | hidden(h, r) {
-            return 0;
-        }
-        return (r ^ tfiar(p, m)) & tfiar_care(p, b, h);
+    if hidden(x, m) | hidden(h, r) {
+        return 0;
     }
-    0
+    (r ^ tfiar(p, m)) & tfiar_care(p, fields::told(x), h)
 }
 
-pub fn tfhar_differing(m: u64, r: u64) -> u64
+fn tfhar_differing(m: u64, r: u64) -> u64
     ensures { λ d. ⌜ d ≡ tfhar-differing m r ⌝ }
 {
     (r ^ m) & ADDRESS
 }
 
-pub fn cr0_differing(m: u8, r: u8) -> u8
+fn cr0_differing(m: u8, r: u8) -> u8
     ensures { λ d. ⌜ d ≡ cr0-differing m r ⌝ }
 {
     (r ^ m) & 0b1110
+}
+
+// The verdict on TEXASR, unless another register differs.
+fn unless(same: bool, v: Verdict) -> Verdict
+    ensures { λ r. ⌜ r ≡ cond same v Verdict.Contradicts ⌝ }
+{
+    if same { v } else { Verdict::Contradicts }
+}
+
+fn with_others(j: Judged, tfiar: u64, tfhar: u64, cr0: u8) -> Compared
+    ensures { λ r. ⌜ r ≡ with-others j tfiar tfhar cr0 ⌝ }
+{
+    let v = j.verdict;
+    let same = (tfiar == 0) & ((tfhar == 0) & (cr0 == 0));
+    Compared {
+        verdict: unless(same, v),
+        texasr: j.bits,
+        tfiar,
+        tfhar,
+        cr0,
+    }
+}
+
+// The registers read on hardware, h, against the model's, m.
+pub fn compared(p: Profile, m: Registers, h: Registers) -> Compared
+    ensures { λ r. ⌜ r ≡ compared p m h ⌝ }
+{
+    let j = judged(p, m.texasr, h.texasr);
+    let b = fields::told(m.texasr);
+    if (b == fields::told(h.texasr)) & (8 <= b) {
+        return with_others(
+            j,
+            tfiar_differing(p, m.texasr, m.tfiar, h.texasr, h.tfiar),
+            tfhar_differing(m.tfhar, h.tfhar),
+            cr0_differing(m.cr0, h.cr0),
+        );
+    }
+    let verdict = j.verdict;
+    Compared {
+        verdict,
+        texasr: j.bits,
+        tfiar: 0,
+        tfhar: 0,
+        cr0: 0,
+    }
 }

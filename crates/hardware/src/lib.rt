@@ -2,6 +2,7 @@
 // TEXASR that the Power ISA text fixes, and those that it leaves free: docs/ISA-DIFFERENCES.md has the reasons.
 pub mod fields;
 pub mod judge;
+pub mod raw;
 pub mod render;
 pub mod table;
 
@@ -31,4 +32,21 @@ pub enum Verdict {
 pub struct Judged {
     pub verdict: Verdict,
     pub bits: u64,
+}
+
+// The registers that tell of a failure, as a handler reads them.
+pub struct Registers {
+    pub texasr: u64,
+    pub tfiar: u64,
+    pub tfhar: u64,
+    pub cr0: u8,
+}
+
+// A verdict on all four, with the bits of each that decide it.
+pub struct Compared {
+    pub verdict: Verdict,
+    pub texasr: u64,
+    pub tfiar: u64,
+    pub tfhar: u64,
+    pub cr0: u8,
 }

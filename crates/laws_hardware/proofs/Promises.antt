@@ -12,13 +12,13 @@ use Rattle.thread.specs.Texasr.{weight, fs, rot, tl, upper, packed, cause-bits}
 use Rattle.hardware.specs.Fields.{bit-at, code, causes, named, one-of, told}
 use Rattle.hardware.specs.Table.{seven, first-byte, may-be-exact, is-exact, exact, level}
 use Rattle.hardware.specs.Render.{rendered, value, care}
-use Rattle.hardware.specs.Judge.{judged, judgement, by-bits, differing}
+use Rattle.hardware.specs.Judge.{judged, judgement, by-bits, differing, tfiar, tfiar-differing, alike, only, compared}
 use Rattle.hardware.specs.declared.Seventh.{Seventh}
 use Rattle.hardware.specs.declared.Seventh.the-variants.{Free, Zero, One}
 use Rattle.hardware.specs.declared.Profile.{Profile}
-use Rattle.hardware.specs.declared.Judged.{Judged}
+use Rattle.hardware.specs.declared.Registers.{Registers}
 use Rattle.hardware.specs.declared.Verdict.the-variants.{Equal}
-use Rattle.laws_hardware.specs.Promises.{EqualToItself, RenderedOnce, SameWithoutHv, Table, States, Verdicts, Decided, Bench, all-judged, split, fixed, free, row-right, rows-right, state-right, states-right}
+use Rattle.laws_hardware.specs.Promises.{EqualToItself, shown-registers, AllEqual, RenderedOnce, SameWithoutHv, Table, States, Verdicts, Decided, Bench, all-judged, split, fixed, free, row-right, rows-right, state-right, states-right}
 
 -- ---- the fields of a packed TEXASR with HV
 
@@ -174,6 +174,23 @@ pub equal-to-itself : EqualToItself
 unfolding judged
 equal-to-itself p x h =
     simp (value-told p x, ne-eqb (told x) 1 h, eq-eqb (told x) (told x) refl, xor-self (value p x))
+
+either-zero : (t : Bool) → cond {A = ℕ} t 0 0 ≡ 0
+either-zero true = refl
+either-zero false = refl
+
+tfiar-itself : (p : Profile) (x m h : ℕ) → tfiar-differing p x m h (tfiar p m) ≡ 0
+unfolding tfiar-differing
+tfiar-itself p x m h = simp (xor-self (tfiar p m), either-zero)
+
+pub all-equal : AllEqual
+unfolding compared
+all-equal p m h = go (alike m (shown-registers p m)) refl
+  where
+    go : (t : Bool) → alike m (shown-registers p m) ≡ t → compared p m (shown-registers p m) ≡ only (judgement Equal 0)
+    go true q =
+        simp (q, equal-to-itself p (m .texasr) h, tfiar-itself p (m .texasr) (m .tfiar) (value p (m .texasr)), xor-self (m .tfhar), xor-self (m .cr0))
+    go false q = simp (q, equal-to-itself p (m .texasr) h)
 
 -- a failure without HV whose cause the table leaves as it is
 module _ (p : Profile) (c s pr e r l b : ℕ) (hv : p .hv ≡ false) (hc : c < 2 ^ 32) (hs : s < 2) (hp : pr < 2) (he : e < 2) (hr : r < 2) (hl : l < 2 ^ 12)

@@ -12,16 +12,24 @@ use Rattle.transaction.specs.declared.Cause.the-variants.{Disallowed, Nesting, 
 use Rattle.thread.specs.Texasr.{weight, packed, cause-bits}
 use Rattle.hardware.specs.Fields.{told}
 use Rattle.hardware.specs.Render.{value, care}
-use Rattle.hardware.specs.Judge.{judged, judgement}
+use Rattle.hardware.specs.Judge.{judged, judgement, tfiar, only, compared}
 use Rattle.hardware.specs.declared.Seventh.{Seventh}
 use Rattle.hardware.specs.declared.Seventh.the-variants.{Free, Zero, One}
 use Rattle.hardware.specs.declared.Profile.{Profile}
+use Rattle.hardware.specs.declared.Registers.{Registers}
 use Rattle.hardware.specs.declared.Verdict.{Verdict}
 use Rattle.hardware.specs.declared.Verdict.the-variants.{Equal, Allowed, Contradicts}
 
 -- what is rendered is equal to what it was rendered from, and rendered again stays; a TEXASR that tells no one cause is equal to nothing
 abbrev pub EqualToItself : Type 0
 EqualToItself = (p : Profile) (x : ℕ) → (told x ≡ 1 → ⊥) → judged p x (value p x) ≡ judgement Equal 0
+
+-- so are all four registers
+abbrev pub shown-registers : Profile → Registers → Registers
+shown-registers p m = record { texasr = value p (m .texasr); tfiar = tfiar p (m .tfiar); tfhar = m .tfhar; cr0 = m .cr0 }
+
+abbrev pub AllEqual : Type 0
+AllEqual = (p : Profile) (m : Registers) → (told (m .texasr) ≡ 1 → ⊥) → compared p m (shown-registers p m) ≡ only (judgement Equal 0)
 
 abbrev pub RenderedOnce : Type 0
 RenderedOnce = (p : Profile) (x : ℕ) → value p (value p x) ≡ value p x

@@ -4,12 +4,6 @@ use borrow.Author.Needs.{needs}
 use Rattle.hardware.proofs.judge.tfiar_differing.Statement.{statement}
 use Rattle.hardware.proofs.judge.tfiar_differing.Tie as tie
 
-told-requires : tie.Need-told-requires
-told-requires c κs = search needs
-
-told-requires-2 : tie.Need-told-requires-2
-told-requires-2 c κs = search needs
-
 hidden-requires : tie.Need-hidden-requires
 hidden-requires c κs = search needs
 
@@ -18,32 +12,29 @@ hidden-requires-2 c κs = search needs
 
 returns : tie.Need-returns
 unfolding tfiar-differing
-returns c = simp (← c .before .before .before .before .before .told .ensures, ← c .before .before .before .before .told2 .ensures, c .before .before .before .if1 .taken, ← c .before .before .hidden .ensures, ← c .before .hidden2 .ensures, c .if2 .taken)
+returns c = simp (← c .before .before .hidden .ensures, ← c .before .hidden2 .ensures, c .if1 .taken)
 
 tfiar-requires : tie.Need-tfiar-requires
 tfiar-requires c κs = search needs
+
+told-requires : tie.Need-told-requires
+told-requires c κs = search needs
 
 tfiar-care-requires : tie.Need-tfiar-care-requires
 tfiar-care-requires c κs = search needs
 
 returns-2 : tie.Need-returns-2
 unfolding tfiar-differing
-returns-2 c = simp (← c .before .before .before .before .before .before .before .told .ensures, ← c .before .before .before .before .before .before .told2 .ensures, c .before .before .before .before .before .if1 .taken, ← c .before .before .before .before .hidden .ensures, ← c .before .before .before .hidden2 .ensures, c .before .before .if2 .left, c .before .tfiar .ensures, c .tfiar-care .ensures)
-
-returns-3 : tie.Need-returns-3
-unfolding tfiar-differing
-returns-3 c = simp (← c .before .before .told .ensures, ← c .before .told2 .ensures, c .if1 .left)
+returns-2 c = simp (← c .before .before .before .before .before .hidden .ensures, ← c .before .before .before .before .hidden2 .ensures, c .before .before .before .if1 .left, c .before .before .tfiar .ensures, c .before .told .ensures, c .tfiar-care .ensures)
 
 pub tfiar-differing-spec : {M : Type 1} → statement M
 tfiar-differing-spec =
     tie.close
     (tie.spec
-    told-requires
-    told-requires-2
     hidden-requires
     hidden-requires-2
     returns
     tfiar-requires
+    told-requires
     tfiar-care-requires
-    returns-2
-    returns-3)
+    returns-2)
