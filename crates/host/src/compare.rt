@@ -8,7 +8,7 @@ use hardware::raw::RawVerdict;
 
 // What hardware shows for a TEXASR of the model, and the bits that are fixed.
 #[no_mangle]
-pub extern "C" fn naszeptan_shown(p: RawProfile, texasr: u64) -> RawShown
+pub extern "C" fn naszeptan_on_hardware(p: RawProfile, texasr: u64) -> RawShown
     ensures { λ r. ⌜ r ≡ show p texasr ⌝ }
 {
     hardware::raw::show(p, texasr)
