@@ -103,10 +103,7 @@ fn hardware() {
         layout!(Failure, texasr, tfiar, tfhar, cr0),
         (32, 8, vec![0, 8, 16, 24])
     );
-    assert_eq!(
-        layout!(Shown, answer, value, care),
-        (24, 8, vec![0, 8, 16])
-    );
+    assert_eq!(layout!(Shown, answer, value, care), (24, 8, vec![0, 8, 16]));
     assert_eq!(
         layout!(Compared, answer, verdict, cr0, texasr, tfiar, tfhar),
         (32, 8, vec![0, 1, 2, 8, 16, 24])
