@@ -202,6 +202,19 @@ impl Row {
         self.recorded == Some(self.record)
     }
 
+    /// The registers as the failure's handler reads them: CR0 is 0b1010 once a
+    /// failure that waits in Suspended state is handled (rule F6).
+    pub fn handler(&self) -> FailureRegisters {
+        let cr0 = match self.state {
+            State::S => 0b1010,
+            _ => self.registers.cr0,
+        };
+        FailureRegisters {
+            cr0,
+            ..self.registers
+        }
+    }
+
     /// A treclaim. of the thread's transaction.
     pub fn is_reclaim(&self) -> bool {
         matches!(self.event, Event::Treclaim { .. })

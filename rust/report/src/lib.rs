@@ -5,6 +5,7 @@
 #![forbid(unsafe_code)]
 
 pub mod asked;
+pub mod command;
 pub mod json;
 pub mod read;
 pub mod sheet;

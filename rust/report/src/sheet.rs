@@ -60,7 +60,7 @@ impl Sheet {
             entries.push(Entry {
                 row,
                 shown: profile.shown(row.registers.texasr).ok(),
-                judged: read.flatten().and_then(|read| judge(read, &row.registers)),
+                judged: read.flatten().and_then(|read| judge(read, &row.handler())),
             });
         }
         let mut rest: Vec<Read> = queues.into_iter().flatten().collect();
