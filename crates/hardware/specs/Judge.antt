@@ -1,4 +1,4 @@
--- A value read on hardware judged against the model's (rules B6 to B9).
+-- A value read on hardware judged against the model's (rules B6 to B8).
 use Prim.Native.Nat.{ℕ, _+_, _-_, _*_, _%_, _^_}
 use mathlib.Core.Bool.{Bool, true, false, cond, _&&_, _||_}
 use lib.Bits.{bitAnd, bitXor}
