@@ -6,7 +6,7 @@ use lib.Dec.{eqb, leb}
 use Rattle.base.specs.Below.{bit}
 use Rattle.thread.specs.Texasr.{weight, rot, tl, packed}
 use Rattle.hardware.specs.Fields.{bit-at, code, causes, told}
-use Rattle.hardware.specs.Table.{is-free, first-byte, may-be-exact, exact, may-be-late, level, level-bits}
+use Rattle.hardware.specs.Table.{is-free, first-byte, may-be-exact, exact, may-be-late, level, level-care}
 use Rattle.hardware.specs.declared.Profile.{Profile}
 
 -- bits 0:31 by the cause, 32 and 35 as the model has them, HV by the profile, FS = 1, exact by the cause, ROT, the level
@@ -24,8 +24,8 @@ abbrev pub care-cause : Profile → ℕ → ℕ
 care-cause p b = (2 ^ 32 - 1 - bit (eqb b 9 && is-free (p .seventh)) * 2 ^ 24) * 2 ^ 32
 
 -- 32, 34, 35 and the level are those of the recording (8.3.2; 8.4.2 bits 32 and 34:35)
-abbrev pub care-state : Profile → ℕ → ℕ
-care-state p b = cond (may-be-late p b) 0 (weight 32 + weight 34 + weight 35 + level-bits p)
+abbrev pub care-state : Profile → ℕ → ℕ → ℕ
+care-state p x b = cond (may-be-late p b) 0 (weight 32 + weight 34 + weight 35 + level-care p (level p b (tl x)))
 
 -- ROT; a tbegin. with R = 0 between the failure and its recording turns it off (tbegin. in 8.5)
 abbrev pub care-rot : Profile → ℕ → ℕ → ℕ
@@ -39,5 +39,5 @@ care-exact b = weight 36 + cond (may-be-exact b) 0 (weight 37)
 -- tells no one cause
 unfoldable pub care : Profile → ℕ → ℕ
 care p x =
-    cond (leb 8 (told x)) (care-cause p (told x) + care-state p (told x) + care-rot p x (told x) + care-exact (told x))
-    (cond (eqb (told x) 0) (weight 36 + weight 38 + level-bits p) 0)
+    cond (leb 8 (told x)) (care-cause p (told x) + care-state p x (told x) + care-rot p x (told x) + care-exact (told x))
+    (cond (eqb (told x) 0) (weight 36 + weight 38 + level-care p (tl x)) 0)

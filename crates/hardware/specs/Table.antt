@@ -46,6 +46,10 @@ level p b was = cond (eqb b 9) (p .highest % 2 ^ 12) was
 abbrev pub level-bits : Profile → ℕ
 level-bits p = p .highest % 2 ^ 12
 
+-- those that are compared: all, where the processor has no such level
+abbrev pub level-care : Profile → ℕ → ℕ
+level-care p l = cond (leb l (level-bits p)) (level-bits p) (2 ^ 12 - 1)
+
 -- a highest level is 2 ^ t - 1 with t from 4 to 12 (8.4.2)
 unfoldable pub is-highest : ℕ → ℕ → Bool
 is-highest zero n = eqb n (2 ^ 4 - 1)

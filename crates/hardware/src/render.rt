@@ -44,14 +44,15 @@ fn care_cause(p: Profile, b: u64) -> u64
     (0xFFFF_FFFF - base::bit(free) * 0x100_0000) * 0x1_0000_0000
 }
 
-fn care_state(p: Profile, b: u64) -> u64
-    ensures { λ r. ⌜ r ≡ care-state p b ⌝ }
+fn care_state(p: Profile, x: u64, b: u64) -> u64
+    ensures { λ r. ⌜ r ≡ care-state p x b ⌝ }
     ensures { λ r. ⌜ r < 2 ^ 32 - 2 ^ 28 ⌝ }
 {
     if table::may_be_late(p, b) {
         return 0;
     }
-    fields::SUSPENDED + fields::HYPERVISOR + fields::PROBLEM + table::level_bits(p)
+    let level = table::level(p, b, thread::tl(x));
+    fields::SUSPENDED + fields::HYPERVISOR + fields::PROBLEM + table::level_care(p, level)
 }
 
 fn care_rot(p: Profile, x: u64, b: u64) -> u64
@@ -80,10 +81,10 @@ pub fn care(p: Profile, x: u64) -> u64
 {
     let b = fields::told(x);
     if 8 <= b {
-        return care_cause(p, b) + care_state(p, b) + care_rot(p, x, b) + care_exact(b);
+        return care_cause(p, b) + care_state(p, x, b) + care_rot(p, x, b) + care_exact(b);
     }
     if b == fields::OPEN {
-        return fields::SUMMARY + fields::ROT + table::level_bits(p);
+        return fields::SUMMARY + fields::ROT + table::level_care(p, thread::tl(x));
     }
     0
 }

@@ -1,7 +1,7 @@
 // What the Power ISA text fixes for each cause, which is told by its bit.
 ghost use mathlib.Core.Path.{_≡_};
 ghost use Prim.Native.Nat.{_<_, _^_};
-ghost use Rattle.hardware.specs.Table.{seven, is-free, first-byte, may-be-exact, is-exact, exact, may-be-late, level, level-bits, is-highest};
+ghost use Rattle.hardware.specs.Table.{seven, is-free, first-byte, may-be-exact, is-exact, exact, may-be-late, level, level-bits, level-care, is-highest};
 use crate::Profile;
 use crate::Seventh;
 
@@ -83,6 +83,18 @@ pub fn level_bits(p: Profile) -> u64
     ensures { λ r. ⌜ r < 2 ^ 12 ⌝ }
 {
     p.highest % 0x1000
+}
+
+// Those that are compared.
+pub fn level_care(p: Profile, l: u64) -> u64
+    ensures { λ r. ⌜ r ≡ level-care p l ⌝ }
+    ensures { λ r. ⌜ r < 2 ^ 12 ⌝ }
+{
+    let bits = level_bits(p);
+    if l <= bits {
+        return bits;
+    }
+    0xFFF
 }
 
 pub fn level(p: Profile, b: u64, was: u64) -> u64

@@ -300,4 +300,4 @@ verdicts false =
 
 pub decided : Decided
 unfolding value care told one-of judged
-decided = record { code = refl; two = refl; none = refl; depth = refl }
+decided = record { code = refl; two = refl; none = refl; deep = refl; depth = refl }

@@ -159,11 +159,13 @@ pub record Verdicts (late : Bool) : Type 0 where
   pub abort : split (profile false late Free) 31 (10 ∷ 11 ∷ 12 ∷ 13 ∷ 14 ∷ 15 ∷ 16 ∷ []) (0 ∷ 8 ∷ 9 ∷ []) ≡ true
   pub lower : split (record { highest = 15; hv = false; late = late; seventh = Free }) 0 (9 ∷ []) (8 ∷ 31 ∷ []) ≡ true
 
--- another code; two causes at once, and none; nesting at a level that is not the highest: each with the bits that decide it
+-- another code; two causes at once, and none; a level that the processor has not; nesting at a level that is not the highest: each with the
+-- bits that decide it
 pub record Decided : Type 0 where
   pub code : judged (profile false true Free) 0x8C0000011C000001 0x8D0000011C000001 ≡ judgement Contradicts (weight 7)
   pub two : judged (profile false true Free) 0x0008000018000001 0x000C000018000001 ≡ judgement Contradicts (weight 12 + weight 13 + weight 36)
   pub none : judged (profile false true Free) 0x0008000018000001 0x0000000018000001 ≡ judgement Contradicts (weight 36)
+  pub deep : judged (record { highest = 15; hv = false; late = true; seventh = Free }) 0x000000011C000014 0x000000011C000004 ≡ judgement Contradicts 0x10
   pub depth : judged (profile false true Free) 0x0000000000000001 0x014000001C000001 ≡ judgement Contradicts (2 ^ 12 - 2)
 
 -- ---- bench values by the text, on a processor with HV = 0 and the model's highest level

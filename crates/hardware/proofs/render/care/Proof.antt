@@ -36,15 +36,18 @@ returns c = simp (← c .before .before .before .before .before .told .ensures, 
 add-result-4 : tie.Need-add-result-4
 add-result-4 c = search needs
 
-level-bits-requires : tie.Need-level-bits-requires
-level-bits-requires c κs = search needs
+tl-requires : tie.Need-tl-requires
+tl-requires c κs = search needs
+
+level-care-requires : tie.Need-level-care-requires
+level-care-requires c κs = search needs
 
 add-result-5 : tie.Need-add-result-5
 add-result-5 c = search needs
 
 returns-2 : tie.Need-returns-2
 unfolding care
-returns-2 c = simp (← c .before .before .before .told .ensures, lt-leb _ _ (c .before .before .if1 .left), eq-eqb _ _ (c .before .if2 .taken), c .level-bits .ensures .0)
+returns-2 c = simp (← c .before .before .before .before .told .ensures, lt-leb _ _ (c .before .before .before .if1 .left), eq-eqb _ _ (c .before .before .if2 .taken), c .level-care .ensures .0, c .before .tl .ensures .0)
 
 returns-3 : tie.Need-returns-3
 unfolding care
@@ -64,7 +67,8 @@ care-spec =
     add-result-3
     returns
     add-result-4
-    level-bits-requires
+    tl-requires
+    level-care-requires
     add-result-5
     returns-2
     returns-3)
