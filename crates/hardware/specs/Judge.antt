@@ -7,7 +7,7 @@ use Rattle.base.specs.Below.{bit}
 use Rattle.base.specs.Limits.{most-levels}
 use Rattle.thread.specs.Texasr.{weight}
 use Rattle.hardware.specs.Fields.{bit-at, told}
-use Rattle.hardware.specs.Table.{is-exact, may-be-late}
+use Rattle.hardware.specs.Table.{may-be-late}
 use Rattle.hardware.specs.Render.{value, care}
 use Rattle.hardware.specs.declared.Profile.{Profile}
 use Rattle.hardware.specs.declared.Verdict.{Verdict}

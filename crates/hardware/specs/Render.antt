@@ -1,7 +1,7 @@
 -- What hardware shows for a failure that an event of the model recorded: its value, and the bits that the Power ISA text fixes, its care
 -- (rules B3 to B5).
-use Prim.Native.Nat.{ℕ, _+_, _-_, _*_, _%_, _^_}
-use mathlib.Core.Bool.{Bool, cond, _&&_}
+use Prim.Native.Nat.{ℕ, _+_, _-_, _*_, _^_}
+use mathlib.Core.Bool.{cond, _&&_}
 use lib.Dec.{eqb, leb}
 use Rattle.base.specs.Below.{bit}
 use Rattle.thread.specs.Texasr.{weight, rot, tl, packed}

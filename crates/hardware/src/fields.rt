@@ -1,7 +1,6 @@
 // The fields of a TEXASR, and the cause that it tells.
 ghost use mathlib.Core.Path.{_≡_};
 ghost use Prim.Native.Nat.{_<_, _^_};
-ghost use Rattle.thread.specs.Texasr.{weight};
 ghost use Rattle.hardware.specs.Fields.{bit-at, code, causes, named, one-of, told};
 
 // The weights of bits 32, 34, 35, 36 (FS), 37 (exact) and 38 (ROT), with bit 0 the highest.

@@ -1,7 +1,7 @@
 // A value read on a processor, judged.
 ghost use mathlib.Core.Path.{_≡_};
 ghost use mathlib.Core.Bool.{cond};
-ghost use Rattle.hardware.specs.Judge.{judgement, differing, by-bits, may-differ, chosen, otherwise, judged, tfiar, hidden, addressed, tfiar-care, tfiar-differing, tfhar-differing, cr0-differing, with-others, compared};
+ghost use Rattle.hardware.specs.Judge.{differing, by-bits, may-differ, chosen, otherwise, judged, tfiar, hidden, addressed, tfiar-care, tfiar-differing, tfhar-differing, cr0-differing, with-others, compared};
 use crate::Compared;
 use crate::Judged;
 use crate::Profile;

@@ -1,22 +1,21 @@
 -- The promises hold.
 use mathlib.Core.Path.{_≡_, refl, sym, ap, _∙_}
-use mathlib.Core.Bool.{Bool, true, false, cond, _&&_, _||_}
+use mathlib.Core.Bool.{Bool, true, false, cond}
 use Prim.Native.Nat.{ℕ, _+_, _-_, _*_, _/_, _%_, _<_, _^_}
 use native.Mathlib.Omega.{arith}
 use lib.Dec.{eqb, leb}
-use lib.Bits.{bitAnd, bitXor, xor-self, and-zero-l}
-use borrow.Author.Tests.{eq-eqb, ne-eqb, eqb-true, leb-true, le-leb}
+use lib.Bits.{xor-self}
+use borrow.Author.Tests.{eq-eqb, ne-eqb}
 use Rattle.base.specs.Below.{bit}
 use Rattle.base.proofs.Below.{bit-lt}
-use Rattle.thread.specs.Texasr.{weight, fs, rot, tl, upper, packed, cause-bits}
+use Rattle.thread.specs.Texasr.{weight, fs, rot, tl, upper, packed}
 use Rattle.hardware.specs.Fields.{bit-at, code, causes, named, one-of, told}
 use Rattle.hardware.specs.Table.{seven, first-byte, may-be-exact, is-exact, exact, level}
 use Rattle.hardware.specs.Render.{rendered, value, care}
-use Rattle.hardware.specs.Judge.{judged, judgement, by-bits, differing, tfiar, tfiar-differing, alike, only, compared}
+use Rattle.hardware.specs.Judge.{judged, judgement, tfiar, tfiar-differing, alike, only, compared}
 use Rattle.hardware.specs.declared.Seventh.{Seventh}
 use Rattle.hardware.specs.declared.Seventh.the-variants.{Free, Zero, One}
 use Rattle.hardware.specs.declared.Profile.{Profile}
-use Rattle.hardware.specs.declared.Registers.{Registers}
 use Rattle.hardware.specs.declared.Verdict.the-variants.{Equal}
 use Rattle.laws_hardware.specs.Promises.{EqualToItself, shown-registers, AllEqual, RenderedOnce, SameWithoutHv, Table, States, Verdicts, Decided, Bench, all-judged, split, fixed, free, row-right, rows-right, state-right, states-right}
 
