@@ -85,6 +85,17 @@ static void to_three(void) {
   answer = naszeptan_two_to_three(two, sizeof two, tape, sizeof tape).answer;
 }
 
+static const struct naszeptan_profile any = NASZEPTAN_ANY_PROCESSOR;
+
+static void shows(void) {
+  answer = naszeptan_on_hardware(any, UINT64_C(0x0008000018000001)).answer;
+}
+
+static void compares(void) {
+  struct naszeptan_failure m = {UINT64_C(0x0008000018000001), 5, 4, 10};
+  answer = naszeptan_compare(any, m, m).answer;
+}
+
 /* The bytes of stack that a call used. */
 static size_t used_by(void (*call)(void)) {
   memset(stack, FILL, sizeof stack);
@@ -121,7 +132,8 @@ int main(void) {
                  held("run of stw", runs_words) && held("open", opens) &&
                  held("feed", feeds) && held("close", closes) &&
                  held("read", reads) && held("three to two", to_two) &&
-                 held("two to three", to_three)
+                 held("two to three", to_three) &&
+                 held("on hardware", shows) && held("compare", compares)
              ? 0
              : 1;
 }

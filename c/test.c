@@ -37,6 +37,12 @@ _Static_assert(offsetof(struct naszeptan_fed, session) == 16, "session");
 _Static_assert(sizeof(struct naszeptan_record) == 20, "record");
 _Static_assert(sizeof(struct naszeptan_converted) == 16, "converted");
 _Static_assert(offsetof(struct naszeptan_converted, index) == 8, "index");
+_Static_assert(sizeof(struct naszeptan_profile) == 16, "profile");
+_Static_assert(offsetof(struct naszeptan_profile, nesting) == 10, "nesting");
+_Static_assert(sizeof(struct naszeptan_shown) == 24, "shown");
+_Static_assert(sizeof(struct naszeptan_failure) == 32, "failure");
+_Static_assert(sizeof(struct naszeptan_compared) == 32, "compared");
+_Static_assert(offsetof(struct naszeptan_compared, tfhar) == 24, "tfhar");
 
 static int checks;
 
@@ -1181,6 +1187,90 @@ static void converters(void) {
   }
 }
 
+/* What hardware shows for a value, and which bits are free, by a profile. */
+static void shows(struct naszeptan_profile p, uint64_t texasr, uint64_t value,
+                  uint64_t free) {
+  struct naszeptan_shown shown = naszeptan_on_hardware(p, texasr);
+  CHECK(shown.answer == NASZEPTAN_DONE);
+  CHECK(shown.value == value);
+  CHECK((shown.care & free) == 0);
+  CHECK((shown.care & UINT64_C(0x0000000041FFF000)) == 0);
+  CHECK((shown.care >> 36 & 1) == 1 && shown.care >> 57 == 0x7F);
+}
+
+static struct naszeptan_compared against(struct naszeptan_profile p,
+                                         uint64_t model, uint64_t hardware) {
+  struct naszeptan_failure m = {model, 5, 4, 10}, h = {hardware, 5, 4, 11};
+  return naszeptan_compare(p, m, h);
+}
+
+static void judges(uint64_t model, uint64_t hardware, uint8_t verdict,
+                   uint64_t bits) {
+  const struct naszeptan_profile any = NASZEPTAN_ANY_PROCESSOR;
+  struct naszeptan_compared said = against(any, model, hardware);
+  CHECK(said.answer == NASZEPTAN_DONE);
+  CHECK(said.verdict == verdict);
+  CHECK(said.texasr == bits);
+  CHECK(said.tfiar == 0 && said.tfhar == 0 && said.cr0 == 0);
+}
+
+/* No profile, and a value that tells no one cause: 4, and zeros. */
+static void not_compared(struct naszeptan_profile p, uint64_t texasr) {
+  struct naszeptan_shown shown = naszeptan_on_hardware(p, texasr);
+  struct naszeptan_compared said = against(p, texasr, texasr);
+  CHECK(shown.answer == NASZEPTAN_OPERAND);
+  CHECK(shown.value == 0 && shown.care == 0);
+  CHECK(said.answer == NASZEPTAN_OPERAND && said.verdict == 0);
+  CHECK(said.texasr == 0 && said.tfiar == 0 && said.tfhar == 0);
+  CHECK(said.cr0 == 0);
+}
+
+static void profiles(void) {
+  const struct naszeptan_profile any = NASZEPTAN_ANY_PROCESSOR;
+  struct naszeptan_profile p = any;
+  int levels = 0;
+  for (p.highest = 0; p.highest < 5000; p.highest++) {
+    if (naszeptan_on_hardware(p, 1).answer == NASZEPTAN_DONE)
+      levels++;
+    else
+      not_compared(p, 1);
+  }
+  CHECK(levels == 9);
+  p = any, p.hv = 2, not_compared(p, 1);
+  p = any, p.late = 2, not_compared(p, 1);
+  p = any, p.nesting = 3, not_compared(p, 1);
+  not_compared(any, UINT64_C(0x000C000018000001));
+  not_compared(any, UINT64_C(0x0000000018000001));
+}
+
+/* K3, K5, K6 and K7 by the Power ISA; HV, bit 7 and the level by the profile;
+ * and verdicts, each with its bits. */
+static void hardware(void) {
+  const struct naszeptan_profile any = NASZEPTAN_ANY_PROCESSOR;
+  const struct naszeptan_profile other = {15, 1, 0, 0};
+  const uint64_t plain = UINT64_C(0x0008000018000001);
+  const uint64_t bit_36 = UINT64_C(1) << 27, bit_31 = UINT64_C(1) << 32;
+  struct naszeptan_failure m = {UINT64_C(0x000000011C000001), 5, 4, 10}, h = m;
+  struct naszeptan_compared said;
+  shows(any, UINT64_C(0x008000000C000002), UINT64_C(0x018000000C000002), 0);
+  shows(any, UINT64_C(0x001000009C000001), UINT64_C(0x011000009C000001),
+        UINT64_C(0x04000000));
+  shows(any, UINT64_C(0x002000000C000001), UINT64_C(0x0120000008000001), 0);
+  shows(any, UINT64_C(0x004000001C000FFF), UINT64_C(0x014000001C000FFF),
+        UINT64_C(0x0100000000000000));
+  shows(other, UINT64_C(0x004000001C000FFF), UINT64_C(0x004000003C00000F),
+        UINT64_C(0x0FF0));
+  judges(plain, plain, NASZEPTAN_EQUAL, 0);
+  judges(plain, 1, NASZEPTAN_ALLOWED, plain & UINT64_C(0x00FFFFFF08000000));
+  judges(m.texasr, 1, NASZEPTAN_CONTRADICTS, bit_31 | bit_36);
+  judges(1, m.texasr, NASZEPTAN_CONTRADICTS, bit_31 | bit_36);
+  h.tfiar = 9, h.tfhar = 6, h.cr0 = 3;
+  said = naszeptan_compare(any, m, h);
+  CHECK(said.verdict == NASZEPTAN_CONTRADICTS && said.texasr == 0);
+  CHECK(said.tfiar == 12 && said.tfhar == 0 && said.cr0 == 8);
+  profiles();
+}
+
 int main(void) {
   machines();
   bits();
@@ -1200,6 +1290,7 @@ int main(void) {
   reader_of_edition_two();
   writer_of_edition_two();
   converters();
+  hardware();
   printf("C host: %d checks passed\n", checks);
   return 0;
 }

@@ -460,6 +460,66 @@ struct naszeptan_converted naszeptan_three_to_two(const uint8_t *tape,
                                                   uint8_t *buffer,
                                                   size_t room);
 
+/* A failure beside a POWER processor's (docs/RULES.md, B1 to B9). The calls are
+ * on registers alone; any bits may be handed in. */
+
+/* What is known of the processor. */
+struct naszeptan_profile {
+  uint64_t highest; /* the highest level: 15, 31, 63 and so on to 4095 */
+  uint8_t hv;       /* 0 or 1: HV while the program runs */
+  uint8_t late;     /* 0 or 1: imprecise failures may be recorded late */
+  uint8_t nesting;  /* bit 7 of a nesting overflow: 0, 1, or 2 for free */
+};
+
+#define NASZEPTAN_NESTING_FREE 2
+
+/* The profile of which nothing is known but that there is no hypervisor, as an
+ * initializer. */
+#define NASZEPTAN_ANY_PROCESSOR \
+  { NASZEPTAN_LEVELS, 0, 1, NASZEPTAN_NESTING_FREE }
+
+/* What hardware shows for a TEXASR of the model. Bits that are 0 in care are
+ * free: the Power ISA does not fix them. */
+struct naszeptan_shown {
+  uint8_t answer; /* 0; or 4: no profile, or FS = 1 without exactly one cause */
+  uint64_t value;
+  uint64_t care;
+};
+
+/* What a failure handler reads. */
+struct naszeptan_failure {
+  uint64_t texasr;
+  uint64_t tfiar;
+  uint64_t tfhar;
+  uint8_t cr0;
+};
+
+enum naszeptan_verdict {
+  NASZEPTAN_EQUAL = 0,      /* as the Power ISA asks for this failure */
+  NASZEPTAN_ALLOWED = 1,    /* otherwise, as the Power ISA allows */
+  NASZEPTAN_CONTRADICTS = 2 /* it contradicts the Power ISA, or the tape */
+};
+
+/* A verdict, an enum naszeptan_verdict, and the bits that decide it. The bits
+ * of TFIAR, TFHAR and CR0 are 0 unless both failed by the same cause. */
+struct naszeptan_compared {
+  uint8_t answer; /* 0; or 4, and zeros: as for struct naszeptan_shown */
+  uint8_t verdict;
+  uint8_t cr0;
+  uint64_t texasr;
+  uint64_t tfiar;
+  uint64_t tfhar;
+};
+
+struct naszeptan_shown naszeptan_on_hardware(struct naszeptan_profile profile,
+                                             uint64_t texasr);
+
+/* The registers read on hardware against the model's. FS = 0 in either stands
+ * for a transaction that went on. */
+struct naszeptan_compared naszeptan_compare(struct naszeptan_profile profile,
+                                            struct naszeptan_failure model,
+                                            struct naszeptan_failure hardware);
+
 #ifdef __cplusplus
 }
 #endif

@@ -1,4 +1,5 @@
 // The entry points for C and Rust hosts (include/naszeptan.h). A machine crosses by value as plain numbers, so any bits may be handed in.
+pub mod compare;
 pub mod editions_two;
 pub mod entries;
 pub mod failed;

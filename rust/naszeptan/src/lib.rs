@@ -74,6 +74,9 @@
 //! - [`KINDS`], [`Kind`], [`Operand`]: what all events of one kind have in
 //!   common, one row for each kind.
 //! - [`Texasr`], [`Failure`], [`Cause`]: what a failure left behind.
+//! - [`Profile`], [`Shown`], [`Verdict`], [`Compared`]: what a POWER processor
+//!   shows for a failure, and a verdict on registers that were read on one.
+//! - [`Report`], [`Row`]: all failures of a tape, ready to be compared.
 //! - `{}` of a [`Machine`] or a [`Thread`]: what is not zero. `{:?}` has every
 //!   field.
 //! - [`raw`]: the C header, for bits that the types do not allow.
@@ -86,8 +89,10 @@ mod answer;
 mod edition;
 mod ended;
 mod event;
+mod hardware;
 mod kind;
 mod machine;
+mod report;
 mod session;
 mod show;
 #[allow(unsafe_code)]
@@ -101,6 +106,7 @@ pub use answer::{Answer, NoAnswer};
 pub use edition::{Edition, NotConverted};
 pub use ended::Ended;
 pub use event::{Event, Ts};
+pub use hardware::{bit_names, Compared, FailureRegisters, NoProfile, Profile, Shown, Verdict};
 pub use kind::{Kind, Operand, KINDS};
 pub use machine::{Control, Done, Machine, State, Thread};
 #[doc(inline)]
@@ -110,6 +116,7 @@ pub use raw::{
     VERSION,
 };
 pub use raw::{SPR_SRR0, SPR_SRR1, SPR_TEXASR, SPR_TEXASRU, SPR_TFHAR, SPR_TFIAR};
+pub use report::{Count, NotReported, Report, Row};
 pub use session::{Answers, Session, PIECE};
 pub use tape::{Records, Tape};
 pub use texasr::{Cause, Failure, Texasr};

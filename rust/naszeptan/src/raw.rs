@@ -317,6 +317,64 @@ pub struct Fed {
     pub session: Session,
 }
 
+/// What is known of a POWER processor (docs/RULES.md, B4).
+#[repr(C)]
+#[derive(Clone, Copy, Debug, PartialEq, Eq, Hash)]
+pub struct Profile {
+    /// The highest level: 15, 31, 63 and so on to 4095.
+    pub highest: u64,
+    /// HV, 0 or 1.
+    pub hv: u8,
+    /// 0 or 1: imprecise failures may be recorded late.
+    pub late: u8,
+    /// Bit 7 of a nesting overflow: 0, 1, or 2 for free.
+    pub nesting: u8,
+}
+
+/// The registers that tell of a failure, as a handler reads them.
+#[repr(C)]
+#[derive(Clone, Copy, Debug, Default, PartialEq, Eq, Hash)]
+pub struct Failure {
+    /// TEXASR.
+    pub texasr: u64,
+    /// TFIAR.
+    pub tfiar: u64,
+    /// TFHAR.
+    pub tfhar: u64,
+    /// CR field 0.
+    pub cr0: u8,
+}
+
+/// What hardware shows for a TEXASR of the model.
+#[repr(C)]
+#[derive(Clone, Copy, Debug, PartialEq, Eq, Hash)]
+pub struct Shown {
+    /// 0; or 4 with zeros: no profile, or FS = 1 without exactly one cause.
+    pub answer: u8,
+    /// The value.
+    pub value: u64,
+    /// The bits of it that the Power ISA fixes; the others are free.
+    pub care: u64,
+}
+
+/// A verdict on registers that were read on hardware.
+#[repr(C)]
+#[derive(Clone, Copy, Debug, PartialEq, Eq, Hash)]
+pub struct Compared {
+    /// 0; or 4 with zeros, as for [`Shown`].
+    pub answer: u8,
+    /// 0 equal, 1 allowed, 2 contradicts.
+    pub verdict: u8,
+    /// The bits of CR0 that decide it.
+    pub cr0: u8,
+    /// The bits of TEXASR that decide it.
+    pub texasr: u64,
+    /// The bits of TFIAR that decide it.
+    pub tfiar: u64,
+    /// The bits of TFHAR that decide it.
+    pub tfhar: u64,
+}
+
 /// The version of the rules that the archive keeps; compare it with
 /// [`VERSION`].
 pub fn version() -> u32 {
@@ -430,4 +488,15 @@ pub fn two_to_three(tape: &[u8], buffer: &mut [u8]) -> Converted {
 /// way.
 pub fn three_to_two(tape: &[u8], buffer: &mut [u8]) -> Converted {
     sys::three_to_two(tape, buffer)
+}
+
+/// What hardware shows for a TEXASR of the model, and the bits of it that are
+/// fixed. Refused by 4.
+pub fn on_hardware(profile: Profile, texasr: u64) -> Shown {
+    sys::on_hardware(profile, texasr)
+}
+
+/// The registers read on hardware against the model's. Refused by 4.
+pub fn compare(profile: Profile, model: Failure, hardware: Failure) -> Compared {
+    sys::compare(profile, model, hardware)
 }

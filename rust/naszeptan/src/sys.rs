@@ -4,7 +4,9 @@
 //! names elements which the call may use alone. A Rust slice is just that, and
 //! any other bits may be handed in; so each function here is safe.
 
-use crate::raw::{Converted, Done, Ended, Event, Fed, Machine, Record, Session};
+use crate::raw::{
+    Compared, Converted, Done, Ended, Event, Failure, Fed, Machine, Profile, Record, Session, Shown,
+};
 
 extern "C" {
     fn naszeptan_version() -> u32;
@@ -45,6 +47,8 @@ extern "C" {
         buffer: *mut u8,
         room: usize,
     ) -> Converted;
+    fn naszeptan_on_hardware(profile: Profile, texasr: u64) -> Shown;
+    fn naszeptan_compare(profile: Profile, model: Failure, hardware: Failure) -> Compared;
 }
 
 pub(crate) fn version() -> u32 {
@@ -138,4 +142,15 @@ pub(crate) fn two_to_three(tape: &[u8], buffer: &mut [u8]) -> Converted {
 pub(crate) fn three_to_two(tape: &[u8], buffer: &mut [u8]) -> Converted {
     // SAFETY: as for `two_to_three`.
     unsafe { naszeptan_three_to_two(tape.as_ptr(), tape.len(), buffer.as_mut_ptr(), buffer.len()) }
+}
+
+pub(crate) fn on_hardware(profile: Profile, texasr: u64) -> Shown {
+    // SAFETY: takes numbers by value, which may be any; every field of the
+    // answer is an integer.
+    unsafe { naszeptan_on_hardware(profile, texasr) }
+}
+
+pub(crate) fn compare(profile: Profile, model: Failure, hardware: Failure) -> Compared {
+    // SAFETY: as for `on_hardware`.
+    unsafe { naszeptan_compare(profile, model, hardware) }
 }

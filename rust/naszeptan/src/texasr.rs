@@ -129,6 +129,51 @@ impl Cause {
             bits => Cause::Other(bits),
         }
     }
+
+    /// The bit of TEXASR, 8 to 16 or 31; None where there is not just one.
+    pub const fn bit(self) -> Option<u32> {
+        Some(match self {
+            Cause::Disallowed => 8,
+            Cause::NestingOverflow => 9,
+            Cause::FootprintOverflow => 10,
+            Cause::SelfInducedConflict => 11,
+            Cause::NonTransactionalConflict => 12,
+            Cause::TransactionConflict => 13,
+            Cause::TranslationInvalidation => 14,
+            Cause::ImplementationSpecific => 15,
+            Cause::InstructionFetchConflict => 16,
+            Cause::Abort => 31,
+            Cause::Other(_) => return None,
+        })
+    }
+
+    /// The names of the bit: Linux's, in its self-tests' reg.h for powerpc, and
+    /// that of gcc's macro in htmintrin.h.
+    ///
+    /// ```
+    /// use naszeptan::Cause;
+    ///
+    /// let (linux, gcc) = Cause::FootprintOverflow.names().unwrap();
+    /// assert_eq!((linux, gcc), ("TEXASR_FO", "_TEXASR_FOOTPRINT_OVERFLOW"));
+    /// ```
+    pub const fn names(self) -> Option<(&'static str, &'static str)> {
+        Some(match self {
+            Cause::Disallowed => ("TEXASR_DA", "_TEXASR_DISALLOWED"),
+            Cause::NestingOverflow => ("TEXASR_NO", "_TEXASR_NESTING_OVERFLOW"),
+            Cause::FootprintOverflow => ("TEXASR_FO", "_TEXASR_FOOTPRINT_OVERFLOW"),
+            Cause::SelfInducedConflict => ("TEXASR_SIC", "_TEXASR_SELF_INDUCED_CONFLICT"),
+            Cause::NonTransactionalConflict => ("TEXASR_NTC", "_TEXASR_NON_TRANSACTIONAL_CONFLICT"),
+            Cause::TransactionConflict => ("TEXASR_TC", "_TEXASR_TRANSACTION_CONFLICT"),
+            Cause::TranslationInvalidation => {
+                ("TEXASR_TIC", "_TEXASR_TRANSLATION_INVALIDATION_CONFLICT")
+            }
+            // So spelled in gcc's header.
+            Cause::ImplementationSpecific => ("TEXASR_IC", "_TEXASR_IMPLEMENTAION_SPECIFIC"),
+            Cause::InstructionFetchConflict => ("TEXASR_IFC", "_TEXASR_INSTRUCTION_FETCH_CONFLICT"),
+            Cause::Abort => ("TEXASR_ABT", "_TEXASR_ABORT"),
+            Cause::Other(_) => return None,
+        })
+    }
 }
 
 impl Texasr {

@@ -4,8 +4,8 @@
 use std::mem::{align_of, offset_of, size_of};
 
 use naszeptan::raw::{
-    Control, Converted, Done, Ended, Entry, Event, Fed, Lines, Machine, Record, Registers, Session,
-    Thread, Transaction,
+    Compared, Control, Converted, Done, Ended, Entry, Event, Failure, Fed, Lines, Machine, Profile,
+    Record, Registers, Session, Shown, Thread, Transaction,
 };
 
 /// The size and alignment of a type, and where its fields start.
@@ -90,5 +90,22 @@ fn session() {
     assert_eq!(
         layout!(Fed, answer, finished, session),
         (6808, 8, vec![0, 8, 16])
+    );
+}
+
+#[test]
+fn hardware() {
+    assert_eq!(
+        layout!(Profile, highest, hv, late, nesting),
+        (16, 8, vec![0, 8, 9, 10])
+    );
+    assert_eq!(
+        layout!(Failure, texasr, tfiar, tfhar, cr0),
+        (32, 8, vec![0, 8, 16, 24])
+    );
+    assert_eq!(layout!(Shown, answer, value, care), (24, 8, vec![0, 8, 16]));
+    assert_eq!(
+        layout!(Compared, answer, verdict, cr0, texasr, tfiar, tfhar),
+        (32, 8, vec![0, 1, 2, 8, 16, 24])
     );
 }

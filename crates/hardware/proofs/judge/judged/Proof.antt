@@ -1,0 +1,46 @@
+-- `hardware::judge::judged` meets its contract.
+use borrow.Author.Tests.{eq-eqb, ne-eqb}
+use Rattle.hardware.specs.Judge.{judged}
+use borrow.Author.Needs.{needs}
+use Rattle.hardware.proofs.judge.judged.Statement.{statement}
+use Rattle.hardware.proofs.judge.judged.Tie as tie
+
+told-requires : tie.Need-told-requires
+told-requires c κs = search needs
+
+returns : tie.Need-returns
+unfolding judged
+returns c = simp (← c .before .told .ensures, eq-eqb _ _ (c .if1 .taken))
+
+told-requires-2 : tie.Need-told-requires-2
+told-requires-2 c κs = search needs
+
+differing-requires : tie.Need-differing-requires
+differing-requires c κs = search needs
+
+by-bits-requires : tie.Need-by-bits-requires
+by-bits-requires c κs = search needs
+
+returns-2 : tie.Need-returns-2
+unfolding judged
+returns-2 c = simp (← c .before .before .before .before .before .told .ensures, ne-eqb _ _ (c .before .before .before .before .if1 .left), ← c .before .before .before .told2 .ensures, eq-eqb _ _ (c .before .before .if2 .taken), c .by-bits .ensures, c .before .differing .ensures)
+
+otherwise-requires : tie.Need-otherwise-requires
+otherwise-requires c κs = search needs
+
+returns-3 : tie.Need-returns-3
+unfolding judged
+returns-3 c = simp (← c .before .before .before .before .told .ensures, ne-eqb _ _ (c .before .before .before .if1 .left), ← c .before .before .told2 .ensures, ne-eqb _ _ (c .before .if2 .left), c .otherwise .ensures)
+
+pub judged-spec : {M : Type 1} → statement M
+judged-spec =
+    tie.close
+    (tie.spec
+    told-requires
+    returns
+    told-requires-2
+    differing-requires
+    by-bits-requires
+    returns-2
+    otherwise-requires
+    returns-3)

@@ -1,0 +1,13 @@
+-- `hardware::judge::with_others` meets its contract.
+use borrow.Author.Needs.{needs}
+use Rattle.hardware.proofs.judge.with_others.Statement.{statement}
+use Rattle.hardware.proofs.judge.with_others.Tie as tie
+
+unless-requires : tie.Need-unless-requires
+unless-requires c κs = search needs
+
+returns : tie.Need-returns
+returns c = simp (c .unless .ensures)
+
+pub with-others-spec : {M : Type 1} → statement M
+with-others-spec = tie.close (tie.spec unless-requires returns)

@@ -1,0 +1,5 @@
+pub mod Fields
+pub mod Table
+pub mod Render
+pub mod Judge
+pub mod Raw

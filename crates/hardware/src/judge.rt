@@ -1,0 +1,190 @@
+// A value read on a processor, judged.
+ghost use mathlib.Core.Path.{_≡_};
+ghost use mathlib.Core.Bool.{cond};
+ghost use Rattle.hardware.specs.Judge.{differing, by-bits, may-differ, chosen, otherwise, judged, tfiar, hidden, addressed, tfiar-care, tfiar-differing, tfhar-differing, cr0-differing, with-others, compared};
+use crate::Compared;
+use crate::Judged;
+use crate::Profile;
+use crate::Registers;
+use crate::Verdict;
+use crate::fields;
+use crate::render;
+use crate::table;
+
+// Bits 8:31 and FS.
+const TELLING: u64 = 0x00FF_FFFF_0800_0000;
+
+// All bits of an address but its two low ones.
+const ADDRESS: u64 = 0xFFFF_FFFF_FFFF_FFFC;
+
+fn differing(p: Profile, x: u64, h: u64) -> u64
+    ensures { λ r. ⌜ r ≡ differing p x h ⌝ }
+{
+    (h ^ render::value(p, x)) & render::care(p, x)
+}
+
+fn by_bits(d: u64) -> Judged
+    ensures { λ r. ⌜ r ≡ by-bits d ⌝ }
+{
+    if d == 0 {
+        return Judged {
+            verdict: Verdict::Equal,
+            bits: 0,
+        };
+    }
+    Judged {
+        verdict: Verdict::Contradicts,
+        bits: d,
+    }
+}
+
+// Hardware went on or failed by cause k where the model went on or failed by cause b.
+fn may_differ(p: Profile, b: u64, k: u64) -> bool
+    ensures { λ r. ⌜ r ≡ may-differ p b k ⌝ }
+{
+    (((k == 0) & (10 <= b)) & ((b <= 13) | ((b == 14) & p.late)))
+        | (((k == 9) & (p.highest < base::LEVELS)) | ((10 <= k) & (k <= 16)))
+}
+
+fn chosen(b: bool) -> Verdict
+    ensures { λ r. ⌜ r ≡ chosen b ⌝ }
+{
+    if b {
+        Verdict::Allowed
+    } else {
+        Verdict::Contradicts
+    }
+}
+
+// By another cause than the model's, or none.
+fn otherwise(p: Profile, x: u64, h: u64) -> Judged
+    ensures { λ r. ⌜ r ≡ otherwise p x h ⌝ }
+{
+    let form = differing(p, h, h);
+    if form == 0 {
+        let may = may_differ(p, fields::told(x), fields::told(h));
+        return Judged {
+            verdict: chosen(may),
+            bits: (h ^ x) & TELLING,
+        };
+    }
+    Judged {
+        verdict: Verdict::Contradicts,
+        bits: form,
+    }
+}
+
+// A TEXASR read on hardware against the model's.
+pub fn judged(p: Profile, x: u64, h: u64) -> Judged
+    ensures { λ r. ⌜ r ≡ judged p x h ⌝ }
+{
+    let k = fields::told(h);
+    if k == fields::TORN {
+        return Judged {
+            verdict: Verdict::Contradicts,
+            bits: h & TELLING,
+        };
+    }
+    if fields::told(x) == k {
+        return by_bits(differing(p, x, h));
+    }
+    otherwise(p, x, h)
+}
+
+// The model's TFIAR with HV by the profile.
+pub fn tfiar(p: Profile, m: u64) -> u64
+    ensures { λ r. ⌜ r ≡ tfiar p m ⌝ }
+{
+    m - m % 4 + base::bit(p.hv) * 2 + m % 2
+}
+
+// mfspr gave 0, or may have.
+fn hidden(texasr: u64, r: u64) -> bool
+    ensures { λ b. ⌜ b ≡ hidden texasr r ⌝ }
+{
+    (r == 0) & ((fields::hypervisor(texasr) == 1) | (fields::problem(texasr) == 0))
+}
+
+fn addressed(p: Profile, b: u64, h: u64) -> bool
+    ensures { λ r. ⌜ r ≡ addressed p b h ⌝ }
+{
+    (fields::exact(h) == 1)
+        & (((b == 8) | (b == 11)) | ((b == 31) | ((b == 9) & (base::LEVELS <= p.highest))))
+}
+
+fn tfiar_care(p: Profile, b: u64, h: u64) -> u64
+    ensures { λ r. ⌜ r ≡ tfiar-care p b h ⌝ }
+{
+    let address = base::bit(addressed(p, b, h)) * ADDRESS;
+    if table::may_be_late(p, b) {
+        return address;
+    }
+    address + 3
+}
+
+// Where a TFIAR read on hardware, r, differs from the model's, m; x and h are the TEXASRs, which tell the same cause.
+fn tfiar_differing(p: Profile, x: u64, m: u64, h: u64, r: u64) -> u64
+    ensures { λ d. ⌜ d ≡ tfiar-differing p x m h r ⌝ }
+{
+    if hidden(x, m) | hidden(h, r) {
+        return 0;
+    }
+    (r ^ tfiar(p, m)) & tfiar_care(p, fields::told(x), h)
+}
+
+fn tfhar_differing(m: u64, r: u64) -> u64
+    ensures { λ d. ⌜ d ≡ tfhar-differing m r ⌝ }
+{
+    (r ^ m) & ADDRESS
+}
+
+fn cr0_differing(m: u8, r: u8) -> u8
+    ensures { λ d. ⌜ d ≡ cr0-differing m r ⌝ }
+{
+    (r ^ m) & 0b1110
+}
+
+// The verdict on TEXASR, unless another register differs.
+fn unless(same: bool, v: Verdict) -> Verdict
+    ensures { λ r. ⌜ r ≡ cond same v Verdict.Contradicts ⌝ }
+{
+    if same { v } else { Verdict::Contradicts }
+}
+
+fn with_others(j: Judged, tfiar: u64, tfhar: u64, cr0: u8) -> Compared
+    ensures { λ r. ⌜ r ≡ with-others j tfiar tfhar cr0 ⌝ }
+{
+    let v = j.verdict;
+    let same = (tfiar == 0) & ((tfhar == 0) & (cr0 == 0));
+    Compared {
+        verdict: unless(same, v),
+        texasr: j.bits,
+        tfiar,
+        tfhar,
+        cr0,
+    }
+}
+
+// The registers read on hardware, h, against the model's, m.
+pub fn compared(p: Profile, m: Registers, h: Registers) -> Compared
+    ensures { λ r. ⌜ r ≡ compared p m h ⌝ }
+{
+    let j = judged(p, m.texasr, h.texasr);
+    let b = fields::told(m.texasr);
+    if (b == fields::told(h.texasr)) & (8 <= b) {
+        return with_others(
+            j,
+            tfiar_differing(p, m.texasr, m.tfiar, h.texasr, h.tfiar),
+            tfhar_differing(m.tfhar, h.tfhar),
+            cr0_differing(m.cr0, h.cr0),
+        );
+    }
+    let verdict = j.verdict;
+    Compared {
+        verdict,
+        texasr: j.bits,
+        tfiar: 0,
+        tfhar: 0,
+        cr0: 0,
+    }
+}
