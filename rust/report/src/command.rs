@@ -6,6 +6,7 @@ use std::io::{self, Read};
 use std::path::Path;
 
 use naszeptan::{Report, Tape};
+use workbench::files;
 
 use crate::{json, read, text, Asked, Sheet};
 
@@ -26,7 +27,16 @@ pub fn command(
     input: &mut impl Read,
 ) -> Result<Told, String> {
     let asked = Asked::of(words)?;
-    let tape = Tape::from_bytes(file(&asked.tape, input)?);
+    // A story too, as every verb takes one.
+    let bytes = match files::is_story(&asked.tape) {
+        true => {
+            files::read_story(&asked.tape)
+                .map_err(|failed| failed.why)?
+                .bytes
+        }
+        false => file(&asked.tape, input)?,
+    };
+    let tape = Tape::from_bytes(bytes);
     let of = name(&asked.tape);
     let report = Report::of(&tape).map_err(|why| format!("{of}: {why}"))?;
     let lines = asked.against.as_deref();
