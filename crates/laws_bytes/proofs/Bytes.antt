@@ -2,7 +2,7 @@
 use mathlib.Core.Path.{_≡_, refl, sym, ap, _∙_}
 use mathlib.Core.Bool.{Bool, true, false, cond, _&&_, Bool·beq}
 use Prim.Native.Nat.{ℕ, _+_, _-_, _*_, _/_, _%_, _^_, _≤_, _<_}
-use native.Mathlib.Nat.{mod-lt, mod-eq-of-lt, div-one, mul-one, lt-of-lt-of-le, div-eq-of-lt}
+use native.Mathlib.Nat.{zero-add, mod-lt, mod-eq-of-lt, div-one, mul-one, lt-of-lt-of-le, div-eq-of-lt}
 use native.Mathlib.Omega.{arith}
 use lib.Pow.{pow-pos, pow-mono, shl-shr, shr-shr, mod-mod-pow, field}
 use lib.Dec.{leb, ltb}
@@ -49,6 +49,7 @@ placed-byte k u x i h =
     ∙ ap (λ (y : ℕ). y / 2 ^ (8 * i) % 256) (shl-shr (x % 2 ^ (8 * u)) (8 * k))
     ∙ ap (λ (y : ℕ). y % 2 ^ (8 * u) / 2 ^ (8 * i) % 256) (sym (div-one x))
     ∙ part-byte 0 u x i h
+    ∙ ap (byte x) (zero-add i)
 
 -- ---- marks
 
@@ -109,5 +110,25 @@ read-after-write j w k u old x i h g = go (ltb i w) refl
 eight-in : (i : ℕ) → 8 * i / 8 ≡ i
 eight-in i = omega arith
 
-eight-low : (i : ℕ) → 8 * i % 8 ≡ 0
+eight-low : (i : ℕ) → 8 - 8 - 8 * i % 8 ≡ 0
 eight-low i = omega arith
+
+whole-taken : (v : ℕ) → v < 2 ^ 64 → part 0 bytes v ≡ v
+unfolding part
+whole-taken v h = ap (λ (y : ℕ). y % 2 ^ 64) (div-one v) ∙ mod-eq-of-lt h
+
+whole-stored : (x : ℕ) → x < 2 ^ 64 → placed 0 bytes x ≡ x
+unfolding placed
+whole-stored x h = mul-one (x % 2 ^ 64) ∙ mod-eq-of-lt h
+
+pub wholes : Wholes
+wholes =
+    record {
+      in-its-doubleword = eight-in;
+      from-the-lowest = eight-low;
+      all-marked = refl;
+      whole-taken = whole-taken;
+      whole-stored = whole-stored;
+      ld-narrow = λ s t rt i mem. rw (eight-in, eight-low);
+      std-narrow = λ s t x i h. rw (eight-in, eight-low, whole-stored);
+    }
