@@ -1,14 +1,15 @@
 -- Single-copy atomicity: what a store, a load and a commit leave, byte by byte, and who sees it.
 use mathlib.Core.Path.{_≡_, refl, sym, ap, _∙_, subst}
-use mathlib.Core.Bool.{Bool, true, false, not, cond, Bool·beq, true≢false}
+use mathlib.Core.Bool.{Bool, true, false, not, cond, Bool·beq, true≢false, and-false}
 use mathlib.Core.List.{List}
+use mathlib.Core.Logic.{_⊎_, inl, inr}
 use Prim.Native.Nat.{ℕ, _+_, _-_, _%_, _/_, _≤_, _<_}
 use native.Mathlib.Decide.{ℕ-discrete}
 use native.Mathlib.Omega.{arith}
 use lib.Dec.{eqb, ltb}
 use lib.ListN.{length, getD, set}
 use lib.Seq.{getD-set-same, getD-set-other}
-use borrow.Author.Tests.{ltb-true, eqb-true, eqb-false, eq-eqb, not-true}
+use borrow.Author.Tests.{ltb-true, ltb-false, lt-ltb, le-ltb, le-leb, lt-leb, eqb-true, eqb-false, eq-eqb, not-true}
 use Rattle.base.specs.Limits.{lines, most-threads}
 use Rattle.base.proofs.Below.{all-at, any-false-at, fork, neither}
 use Rattle.lines.specs.Lines as lineset
@@ -53,9 +54,10 @@ use Rattle.laws_keeping.proofs.Others.{others-length, others-met}
 use Rattle.laws_keeping.proofs.Parts.{valid-right}
 use Rattle.laws_keeping.proofs.Effects.{line-below}
 use Rattle.laws_keeping.proofs.Keeping.{keeps}
-use Rattle.laws_bytes.specs.Atomic.{Width, wide, storing, loading, Aligned, at, sees, over, Stored, StoredAtOnce, Logged, LoggedAtOnce, LoadedAtOnce, SingleCopy, placed-over, log-over, CommittedAtOnce}
+use Rattle.laws_bytes.specs.Atomic.{Width, wide, storing, loading, Aligned, at, sees, over, Stored, StoredAtOnce, Logged, LoggedAtOnce, LoadedAtOnce, Copied, SingleCopy, placed-over, log-over, CommittedAtOnce}
 use Rattle.laws_bytes.specs.Atomic.Width.{One, Two, Four, Eight}
-use Rattle.laws_bytes.proofs.Addressed.{within, low, marks, value, stored-over, loaded-at}
+use Rattle.laws_bytes.proofs.Bytes.{part-byte, part-above}
+use Rattle.laws_bytes.proofs.Addressed.{nested, within, low, marks, value, stored-over, loaded-at}
 
 -- ---- the events of a width are one store and one load
 
@@ -245,7 +247,7 @@ stored-at-once m mem v ra a w good z al n =
     in-memory b =
         ap (λ (now : List ℕ). at now b) (memory-after m mem v ra a w good z n)
         ∙ stored-over w a (gpr (thread (m .threads) v) ra) al (λ d. getD mem d 0) (λ d. getD (put mem (doubleword-of a) (marks w a) (value w a (gpr (thread (m .threads) v) ra))) d 0)
-          (λ d. put-at mem (doubleword-of a) (marks w a) _ d (inside m mem v ra a w good z n)) b
+        (λ d. put-at mem (doubleword-of a) (marks w a) _ d (inside m mem v ra a w good z n)) b
 
 -- ---- an access that is answered 0 was not refused, and its thread is there
 
@@ -302,7 +304,7 @@ logged-at-once m mem v ra a w good al s done =
       seen = λ b. ap (λ (mm : List ℕ). sees (thread (step m mem v e .done .machine .threads) v) mm b) now
           ∙ ap (λ (u : Thread). sees u mem b) (thread-after m mem v e good done ∙ ap (λ (f : Effect). f .thread) is)
           ∙ stored-over w a x al (λ d. transaction.load (t .transaction) mem d) (λ d. transaction.load (transaction.store (t .transaction) i (marks w a) (value w a x)) mem d)
-            (λ d. load-store (t .transaction) i (marks w a) (value w a x) (held .shape .log) (held-count _ _ (held .held)) (neither (transaction.crowded (t .transaction) (line i)) _ room .1) mem d) b;
+          (λ d. load-store (t .transaction) i (marks w a) (value w a x) (held .shape .log) (held-count _ _ (held .held)) (neither (transaction.crowded (t .transaction) (line i)) _ room .1) mem d) b;
     }
   where
     t : Thread
@@ -361,24 +363,46 @@ loaded-at-once m mem v rt c u good al done i =
 
 -- ---- a store, then a load
 
-pub single-copy : SingleCopy
-single-copy m mem v ra a w good z al n y rt c u au same done i =
-    let o = step m mem v (storing w ra a) in
-    let e = loading u rt c in
-    let k = keeps m mem v (storing w ra a) good .1 in
-    loaded-at-once (o .done .machine) (o .memory) y rt c u k au done i ∙ go (ltb i (wide u)) refl
+-- what follows from each byte
+copied : (w u : Width) (a c x : ℕ) (mem : List ℕ) (taken : ℕ → ℕ) → Aligned w a → Aligned u c
+    → ((i : ℕ) → taken i ≡ cond (ltb i (wide u)) (over w a x (c + wide u - 1 - i) (at mem (c + wide u - 1 - i))) 0) → Copied w u a c x mem taken
+copied w u a c x mem taken al au each = record { each = each; within = λ l p q i. each i ∙ inner l p q i (ltb i (wide u)) refl; clear = λ o i. each i ∙ outer o i (ltb i (wide u)) refl }
   where
-    go : (p : Bool) → ltb i (wide u) ≡ p
-        → cond p (sees (thread (step m mem v (storing w ra a) .done .machine .threads) y) (step m mem v (storing w ra a) .memory) (c + wide u - 1 - i)) 0
+    inner : wide u ≤ wide w → c < a + wide w → a < c + wide u → (i : ℕ) (p : Bool) → ltb i (wide u) ≡ p
+        → cond p (over w a x (c + wide u - 1 - i) (at mem (c + wide u - 1 - i))) 0 ≡ byte (part (a + wide w - (c + wide u)) (wide u) x) i
+    inner l p q i false e = sym (part-above (a + wide w - (c + wide u)) (wide u) x i (ltb-false i (wide u) e))
+    inner l p q i true e =
+        let n = nested u w c a au al l q p in
+        let k = ltb-true i (wide u) e in
+        let f : a + wide w - 1 - (c + wide u - 1 - i) ≡ a + wide w - (c + wide u) + i = omega (arith, n .0, n .1) in
+        simp (le-leb a (c + wide u - 1 - i) (omega (arith, n .0)), lt-ltb (c + wide u - 1 - i) (a + wide w) (omega (arith, n .1)))
+        (ap (byte x) f ∙ sym (part-byte (a + wide w - (c + wide u)) (wide u) x i k))
+
+    outer : (c + wide u ≤ a) ⊎ (a + wide w ≤ c) → (i : ℕ) (p : Bool) → ltb i (wide u) ≡ p
+        → cond p (over w a x (c + wide u - 1 - i) (at mem (c + wide u - 1 - i))) 0 ≡ cond p (at mem (c + wide u - 1 - i)) 0
+    outer o i false e = refl
+    outer (inl l) i true e = let k = ltb-true i (wide u) e in simp (lt-leb a (c + wide u - 1 - i) (omega arith))
+    outer (inr l) i true e = let k = ltb-true i (wide u) e in simp (le-ltb (c + wide u - 1 - i) (a + wide w) (omega arith), and-false)
+
+pub single-copy : SingleCopy
+single-copy m mem v ra a w good z al n y rt c u au same done =
+    copied w u a c _ mem _ al au (λ i. loaded-at-once (o .done .machine) (o .memory) y rt c u k au done i ∙ go i (ltb i (wide u)) refl)
+  where
+    o : Outcome
+    o = step m mem v (storing w ra a)
+
+    k : valid (o .done .machine) (length (o .memory)) ≡ true
+    k = keeps m mem v (storing w ra a) good .1
+
+    go : (i : ℕ) (p : Bool) → ltb i (wide u) ≡ p
+        → cond p (sees (thread (o .done .machine .threads) y) (o .memory) (c + wide u - 1 - i)) 0
         ≡ cond p (over w a (gpr (thread (m .threads) v) ra) (c + wide u - 1 - i) (at mem (c + wide u - 1 - i))) 0
-    go false p = refl
-    go true p =
-        let o = step m mem v (storing w ra a) in
+    go i false p = refl
+    go i true p =
         let l = ltb-true i (wide u) p in
         let h = within u c au in
         let q : doubleword-of (c + wide u - 1 - i) ≡ doubleword-of c = omega arith in
-        stored-at-once m mem v ra a w good z al n .seen y (its-thread (o .done .machine) (o .memory) y (loading u rt c) (keeps m mem v (storing w ra a) good .1) done) (c + wide u - 1 - i)
-        (ap line q ∙ same)
+        stored-at-once m mem v ra a w good z al n .seen y (its-thread (o .done .machine) (o .memory) y (loading u rt c) k done) (c + wide u - 1 - i) (ap line q ∙ same)
 
 -- ---- a commit
 

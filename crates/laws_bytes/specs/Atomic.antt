@@ -3,11 +3,12 @@
 use mathlib.Core.Path.{_≡_}
 use mathlib.Core.Bool.{Bool, true, false, cond}
 use mathlib.Core.List.{List}
+use mathlib.Core.Logic.{_⊎_}
 use Prim.Native.Nat.{ℕ, _+_, _-_, _%_, _≤_, _<_}
 use lib.Dec.{ltb}
 use lib.ListN.{length, getD}
 use Rattle.lines.specs.Lines.{place}
-use Rattle.doubleword.specs.Doubleword.{byte, doubleword-of, lowest}
+use Rattle.doubleword.specs.Doubleword.{byte, doubleword-of, lowest, part}
 use Rattle.transaction.specs.Transaction.{entry, line, lookup, load}
 use Rattle.transaction.specs.declared.Entry.{Entry}
 use Rattle.transaction.specs.declared.Transaction.{Transaction}
@@ -112,16 +113,23 @@ LoadedAtOnce =
 
 -- ---- a store, then a load
 
--- the first load after a store in N or S, by any thread and of any width, in the store's line: each of its bytes is the store's where the
--- two meet, and elsewhere memory's from before the store
+-- the bytes that a load of u bytes at c takes after w bytes of x were stored at a, over a memory from before that. Each is the store's where the
+-- two meet, and elsewhere memory's. So a load that meets the store and is not wider takes bytes of the stored value alone (by `Nested` it lies
+-- within), and one that does not meet it takes what it would have taken before
+pub record Copied (w u : Width) (a c x : ℕ) (mem : List ℕ) (taken : ℕ → ℕ) : Type 0 where
+  pub each : (i : ℕ) → taken i ≡ cond (ltb i (wide u)) (over w a x (c + wide u - 1 - i) (at mem (c + wide u - 1 - i))) 0
+  pub within : wide u ≤ wide w → c < a + wide w → a < c + wide u → (i : ℕ) → taken i ≡ byte (part (a + wide w - (c + wide u)) (wide u) x) i
+  pub clear : (c + wide u ≤ a) ⊎ (a + wide w ≤ c) → (i : ℕ) → taken i ≡ cond (ltb i (wide u)) (at mem (c + wide u - 1 - i)) 0
+
+-- the first load after a store in N or S, by any thread, of any width, in the store's line
 abbrev pub SingleCopy : Type 0
 SingleCopy =
     (m : Machine) (mem : List ℕ) (v ra a : ℕ) (w : Width) → valid m (length mem) ≡ true → refusal m (length mem) v (storing w ra a) ≡ 0 → Aligned w a
     → in-t (thread (m .threads) v .control .msr .state) ≡ false
     → (z rt c : ℕ) (u : Width) → Aligned u c → line (doubleword-of c) ≡ line (doubleword-of a)
     → after (step m mem v (storing w ra a)) (from z (loading u rt c)) .done .answer ≡ 0
-    → (i : ℕ) → byte (gpr (thread (after (step m mem v (storing w ra a)) (from z (loading u rt c)) .done .machine .threads) z) rt) i
-    ≡ cond (ltb i (wide u)) (over w a (gpr (thread (m .threads) v) ra) (c + wide u - 1 - i) (at mem (c + wide u - 1 - i))) 0
+    → Copied w u a c (gpr (thread (m .threads) v) ra) mem
+    (λ i. byte (gpr (thread (after (step m mem v (storing w ra a)) (from z (loading u rt c)) .done .machine .threads) z) rt) i)
 
 -- ---- a commit
 
