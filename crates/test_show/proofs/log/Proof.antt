@@ -30,6 +30,9 @@ cast-place c = search needs
 place-requires : tie.Need-place-requires Inv-loop μ-loop
 place-requires c κs = search needs
 
+marks-requires : tie.Need-marks-requires Inv-loop μ-loop
+marks-requires c κs = search needs
+
 slice-aggregate-place-2 : tie.Need-slice-aggregate-place-2 Inv-loop μ-loop
 slice-aggregate-place-2 c = search needs
 
@@ -60,6 +63,7 @@ log-spec =
     slice-aggregate-place
     cast-place
     place-requires
+    marks-requires
     slice-aggregate-place-2
     place-requires-2
     add-i
