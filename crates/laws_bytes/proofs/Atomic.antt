@@ -3,7 +3,7 @@ use mathlib.Core.Path.{_≡_, refl, sym, ap, _∙_, subst}
 use mathlib.Core.Bool.{Bool, true, false, not, cond, Bool·beq, true≢false, and-false}
 use mathlib.Core.List.{List}
 use mathlib.Core.Logic.{_⊎_, inl, inr}
-use Prim.Native.Nat.{ℕ, _+_, _-_, _%_, _/_, _≤_, _<_}
+use Prim.Native.Nat.{ℕ, _+_, _-_, _≤_, _<_}
 use native.Mathlib.Decide.{ℕ-discrete}
 use native.Mathlib.Omega.{arith}
 use lib.Dec.{eqb, ltb}
@@ -11,13 +11,13 @@ use lib.ListN.{length, getD, set}
 use lib.Seq.{getD-set-same, getD-set-other}
 use borrow.Author.Tests.{ltb-true, ltb-false, lt-ltb, le-ltb, le-leb, lt-leb, eqb-true, eqb-false, eq-eqb, not-true}
 use Rattle.base.specs.Limits.{lines, most-threads}
-use Rattle.base.proofs.Below.{all-at, any-false-at, fork, neither}
+use Rattle.base.proofs.Below.{all-at, any-false-at, neither}
 use Rattle.lines.specs.Lines as lineset
 use Rattle.doubleword.specs.Doubleword.{byte, merged, doubleword-of, lowest, part}
 use Rattle.doubleword.proofs.Laws.{merged-byte}
 use Rattle.transaction.specs.Transaction as transaction
 use Rattle.transaction.specs.Transaction.{entry, line, lookup, loaded, put, written}
-use Rattle.transaction.proofs.Laws.{lookup-below, lookup-there, lookup-absent, load-store, Apart, commit-at}
+use Rattle.transaction.proofs.Laws.{lookup-below, lookup-there, load-store, Apart, commit-at}
 use Rattle.transaction.specs.declared.Entry.{Entry}
 use Rattle.transaction.specs.declared.Cause.the-variants.{Footprint, OwnStore}
 use Rattle.transaction.specs.declared.Found.{Found}
@@ -35,7 +35,7 @@ use Rattle.event.specs.declared.Event.the-variants.{Tend}
 use Rattle.event.specs.Event.{operands-right}
 use Rattle.event.proofs.Laws.{ld-in, std-in, lbz-in, lhz-in, lwz-in, stb-in, sth-in, stw-in}
 use Rattle.power_common.specs.Common.{gpr, fails, dooms, passes, doing, quiet, leveled}
-use Rattle.power_begins.specs.Begins.{commits, ended, tend}
+use Rattle.power_begins.specs.Begins.{ended, tend}
 use Rattle.power_access.specs.Access.{load, takes, joins, loads, store, stores, logs, meets-own, std-overflows, ld-overflows, tracked}
 use Rattle.power_effect.specs.Effects.{effect}
 use Rattle.machine.specs.Machine.{thread, no-thread}
@@ -46,7 +46,6 @@ use Rattle.refusal.specs.Refusal.{in-t, refusal}
 use Rattle.refusal.proofs.Laws.{passed-thread, passed-operands, refusal-valid}
 use Rattle.conflict.specs.Conflict.{others}
 use Rattle.step.specs.Step.{Outcome, perform, step}
-use Rattle.step.specs.Feed.{from, after}
 use Rattle.step.proofs.Laws.{step-passed, step-refused}
 use Rattle.laws_keeping.proofs.Held.{empty-touches, held-parts, held-count}
 use Rattle.laws_keeping.proofs.Fails.{Holds, right, live-unfailed-s, held-nothing-n, held-nothing-s, failure-empties}
@@ -54,7 +53,7 @@ use Rattle.laws_keeping.proofs.Others.{others-length, others-met}
 use Rattle.laws_keeping.proofs.Parts.{valid-right}
 use Rattle.laws_keeping.proofs.Effects.{line-below}
 use Rattle.laws_keeping.proofs.Keeping.{keeps}
-use Rattle.laws_bytes.specs.Atomic.{Width, wide, storing, loading, Aligned, at, sees, over, Stored, StoredAtOnce, Logged, LoggedAtOnce, LoadedAtOnce, Copied, SingleCopy, placed-over, log-over, CommittedAtOnce}
+use Rattle.laws_bytes.specs.Atomic.{Width, wide, storing, loading, Aligned, at, sees, over, StoredAtOnce, LoggedAtOnce, LoadedAtOnce, Copied, SingleCopy, placed-over, CommittedAtOnce}
 use Rattle.laws_bytes.specs.Atomic.Width.{One, Two, Four, Eight}
 use Rattle.laws_bytes.proofs.Bytes.{part-byte, part-above}
 use Rattle.laws_bytes.proofs.Addressed.{nested, within, low, marks, value, stored-over, loaded-at}

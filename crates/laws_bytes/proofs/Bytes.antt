@@ -1,6 +1,6 @@
 -- The bytes of a part, of what is placed and of what is merged, each over the width.
 use mathlib.Core.Path.{_≡_, refl, sym, ap, _∙_}
-use mathlib.Core.Bool.{Bool, true, false, cond, _&&_, Bool·beq}
+use mathlib.Core.Bool.{Bool, true, false, cond, Bool·beq}
 use Prim.Native.Nat.{ℕ, _+_, _-_, _*_, _/_, _%_, _^_, _≤_, _<_}
 use native.Mathlib.Nat.{zero-add, mod-lt, mod-eq-of-lt, div-one, mul-one, lt-of-lt-of-le, div-eq-of-lt}
 use native.Mathlib.Omega.{arith}
