@@ -33,7 +33,7 @@ use Rattle.laws_examples.specs.Examples.{Example, small-memory, machine,
 -- a name for all that the examples compute through: to unfold it is to unfold what stands on its line
 unfoldable pub computed : Bool
 unfolding all-below any-below count-below
-    doubleword.byte doubleword.number doubleword.merged doubleword.only-marked doubleword.part
+    doubleword.byte doubleword.number doubleword.merged doubleword.only-marked doubleword.part doubleword.placed
     lineset.place lineset.empty lineset.has lineset.with lineset.meets lineset.footprint
     transaction.empty transaction.discard transaction.lookup-in transaction.loaded transaction.crowded transaction.full transaction.stored transaction.store-at transaction.commit-in transaction.written
     recording handling felled kind operands-right tm-instruction privileged fails compare.picked compare.holds

@@ -3,7 +3,7 @@ use mathlib.Core.Path.{refl}
 use mathlib.Core.Bool.{true}
 use Rattle.laws_secrecy.specs.Secrecy.{Until}
 use Rattle.laws_examples.specs.Examples.{small-memory, machine, start, ToldApart}
-use Rattle.laws_examples.specs.Leaks.{at-once, unless-same, from-log, unrestored, Leak, Caught, leak-at-once, leak-unless-same, leak-from-log, leak-unrestored, AllCaught}
+use Rattle.laws_examples.specs.Leaks.{at-once, unless-same, from-log, unrestored, nonzero, by-value, never-stored, Leak, Caught, leak-at-once, leak-unless-same, leak-from-log, leak-unrestored, leak-by-value, leak-never-stored, AllCaught}
 use Rattle.laws_secrecy.proofs.Corollaries.{agrees-seen}
 use Rattle.laws_examples.proofs.Examples.{computed, level-1, told-apart}
 
@@ -34,5 +34,13 @@ unrestored-caught : Caught leak-unrestored
 unfolding computed unrestored Until
 unrestored-caught = caught leak-unrestored (λ o. (refl, λ p. (refl, tt))) (told-apart unrestored (leak-unrestored .shown) 18 (level-1 true) refl)
 
+by-value-caught : Caught leak-by-value
+unfolding computed nonzero by-value Until
+by-value-caught = caught leak-by-value (λ o. (refl, λ p. (refl, λ q. (refl, tt)))) (told-apart by-value (leak-by-value .shown) 2 (level-1 true) refl)
+
+never-stored-caught : Caught leak-never-stored
+unfolding computed never-stored Until
+never-stored-caught = caught leak-never-stored (λ o. (refl, λ p. (refl, tt))) (told-apart never-stored (leak-never-stored .shown) 2 (λ n. refl) refl)
+
 pub all-caught : AllCaught
-all-caught = (at-once-caught, (unless-same-caught, (from-log-caught, (unrestored-caught, tt))))
+all-caught = (at-once-caught, (unless-same-caught, (from-log-caught, (unrestored-caught, (by-value-caught, (never-stored-caught, tt))))))

@@ -1,5 +1,5 @@
 // A load and a store of some bytes of a doubleword (rules A1, A2 and A4), each on its thread's rows and on memory. ld and std are all eight.
-// lbz to stw: `narrow`. tlbie: `page`.
+// What a store is of: `narrow`. tlbie: `page`.
 pub mod narrow;
 pub mod page;
 

@@ -1,14 +1,18 @@
 -- What the code of the choice asks, and what it does on a thread by value.
-use Prim.Native.Nat.{ℕ, _*_, _≤_, _<_}
+use Prim.Native.Nat.{ℕ, _+_, _*_, _%_, _≤_, _<_}
 use mathlib.Core.Path.{_≡_}
 use mathlib.Core.Bool.{true}
 use Rattle.base.specs.Limits.{line-size, lines, most-places, gprs}
 use Rattle.thread.specs.declared.Thread.{Thread}
 use Rattle.event.specs.Event.{operands-right}
 use Rattle.event.specs.declared.Event.{Event}
+use Rattle.event.specs.declared.Event.the-variants.{Tbegin, Tend, Tabort, Tabortwc, Tabortdc, Tsr, Tcheck, Mfspr, Ld, Std, Addi, Disallowed, Interrupt, Host, Rfid, Mtmsrd, Lbz, Lhz, Lwz, Stb, Sth, Stw, Tlbie}
 use Rattle.power_common.specs.declared.Did.{Did}
 use Rattle.power_special.specs.Special.{mtspr}
 use Rattle.power_reclaims.specs.Reclaims.{treclaim, trechkpt}
+use Rattle.doubleword.specs.Doubleword.{bytes, doubleword-of, lowest}
+use Rattle.power_effect.specs.declared.Access.{Access}
+use Rattle.power_effect.specs.declared.Access.the-variants.{Load, Store, Neither}
 use Rattle.power_effect.specs.declared.Rare.{Rare}
 use Rattle.power_effect.specs.declared.Rare.the-variants.{Mtspr, Treclaim, Trechkpt}
 
@@ -29,3 +33,61 @@ abbrev pub Registered : Rare → Type 0
 Registered (Mtspr spr ra) = ra < gprs
 Registered (Treclaim ra) = ra < gprs
 Registered Trechkpt = Unit {0}
+
+-- an address that is a multiple of its access's width leaves the bytes in one doubleword
+abbrev pub Aligned : Event → Type 0
+Aligned (Tbegin r) = Unit {0}
+Aligned (Tend a) = Unit {0}
+Aligned (Tabort ra) = Unit {0}
+Aligned (Tabortwc to ra rb) = Unit {0}
+Aligned (Tabortdc to ra rb) = Unit {0}
+Aligned (Tsr l) = Unit {0}
+Aligned (Tcheck bf) = Unit {0}
+Aligned (Event.Treclaim ra) = Unit {0}
+Aligned Event.Trechkpt = Unit {0}
+Aligned (Event.Mtspr spr ra) = Unit {0}
+Aligned (Mfspr rt spr) = Unit {0}
+Aligned (Ld rt i) = Unit {0}
+Aligned (Std ra i) = Unit {0}
+Aligned (Addi rt ra si) = Unit {0}
+Aligned Disallowed = Unit {0}
+Aligned Interrupt = Unit {0}
+Aligned (Host pr tm) = Unit {0}
+Aligned Rfid = Unit {0}
+Aligned (Mtmsrd t s tm pr) = Unit {0}
+Aligned (Lbz rt a) = 1 + a % bytes ≤ bytes
+Aligned (Lhz rt a) = 2 + a % bytes ≤ bytes
+Aligned (Lwz rt a) = 4 + a % bytes ≤ bytes
+Aligned (Stb ra a) = 1 + a % bytes ≤ bytes
+Aligned (Sth ra a) = 2 + a % bytes ≤ bytes
+Aligned (Stw ra a) = 4 + a % bytes ≤ bytes
+Aligned (Tlbie p) = Unit {0}
+
+-- what an event loads or stores, if it does
+unfoldable pub accesses : Event → Access
+accesses (Tbegin r) = Neither
+accesses (Tend a) = Neither
+accesses (Tabort ra) = Neither
+accesses (Tabortwc to ra rb) = Neither
+accesses (Tabortdc to ra rb) = Neither
+accesses (Tsr l) = Neither
+accesses (Tcheck bf) = Neither
+accesses (Event.Treclaim ra) = Neither
+accesses Event.Trechkpt = Neither
+accesses (Event.Mtspr spr ra) = Neither
+accesses (Mfspr rt spr) = Neither
+accesses (Ld rt i) = Load rt i 0 bytes
+accesses (Std ra i) = Store ra i 0 bytes
+accesses (Addi rt ra si) = Neither
+accesses Disallowed = Neither
+accesses Interrupt = Neither
+accesses (Host pr tm) = Neither
+accesses Rfid = Neither
+accesses (Mtmsrd t s tm pr) = Neither
+accesses (Lbz rt a) = Load rt (doubleword-of a) (lowest 1 a) 1
+accesses (Lhz rt a) = Load rt (doubleword-of a) (lowest 2 a) 2
+accesses (Lwz rt a) = Load rt (doubleword-of a) (lowest 4 a) 4
+accesses (Stb ra a) = Store ra (doubleword-of a) (lowest 1 a) 1
+accesses (Sth ra a) = Store ra (doubleword-of a) (lowest 2 a) 2
+accesses (Stw ra a) = Store ra (doubleword-of a) (lowest 4 a) 4
+accesses (Tlbie p) = Neither

@@ -1,6 +1,6 @@
 // An event done on its own thread's rows and on memory (rules E1 to E26): it goes to the crate of its group. Rare ones are done on the thread by value.
 ghost use mathlib.Core.Path.{_≡_};
-ghost use Prim.Native.Nat.{_≤_};
+ghost use Prim.Native.Nat.{_+_, _%_, _≤_};
 ghost use lib.ListN.{length};
 ghost use Rattle.base.specs.Limits.{most-places};
 ghost use Rattle.transaction.specs.declared.Touch.the-variants.{Untouched};
@@ -8,11 +8,12 @@ ghost use Rattle.rows.specs.Rows.{head-of, held, standing};
 ghost use Rattle.rows.specs.Landed.{landed};
 ghost use Rattle.power_common.specs.Common.{did};
 ghost use Rattle.power_effect.specs.Effects.{effect};
-ghost use Rattle.power_effect.specs.Inner.{Ready, Registered, rare};
+ghost use Rattle.power_effect.specs.declared.Access.the-variants.{Load, Store, Neither};
+ghost use Rattle.power_effect.specs.Inner.{Ready, Registered, rare, Aligned, accesses};
+ghost use Rattle.doubleword.specs.Doubleword.{bytes, doubleword-of, lowest};
 use base::CR_FIELDS;
 use base::GPRS;
 use base::PLACES;
-use doubleword::ALL;
 use event::Event;
 use power_aborts::tabort;
 use power_aborts::tabortdc;
@@ -78,8 +79,95 @@ fn quiet(answer: u8) -> Went
     }
 }
 
-// The event on its own thread's rows and on memory.
-pub fn effect(
+// What an event loads or stores, if it does: some bytes of a doubleword, the lowest of them byte `low`.
+pub enum Access {
+    Load {
+        rt: u8,
+        index: u32,
+        low: u32,
+        width: u32,
+    },
+    Store {
+        ra: u8,
+        index: u32,
+        low: u32,
+        width: u32,
+    },
+    Neither,
+}
+
+fn narrow_load(rt: u8, address: u32, width: u32) -> Access
+    requires { ⌜ width + address % bytes ≤ bytes ⌝ }
+    ensures { λ a. ⌜ a ≡ Load rt (doubleword-of address) (lowest width address) width ⌝ }
+{
+    Access::Load {
+        rt,
+        index: address / 8,
+        low: doubleword::lowest(width, address),
+        width,
+    }
+}
+
+fn narrow_store(ra: u8, address: u32, width: u32) -> Access
+    requires { ⌜ width + address % bytes ≤ bytes ⌝ }
+    ensures { λ a. ⌜ a ≡ Store ra (doubleword-of address) (lowest width address) width ⌝ }
+{
+    Access::Store {
+        ra,
+        index: address / 8,
+        low: doubleword::lowest(width, address),
+        width,
+    }
+}
+
+// Loads of every width are one access, and so are stores: each then has one place where it is called, and the compiler puts it there
+// (docs/PERFORMANCE.md).
+fn accesses(e: Event) -> Access
+    requires { ⌜ Aligned e ⌝ }
+    ensures { λ a. ⌜ a ≡ accesses e ⌝ }
+{
+    match e {
+        Event::Tbegin { r } => Access::Neither,
+        Event::Tend { a } => Access::Neither,
+        Event::Tabort { ra } => Access::Neither,
+        Event::Tabortwc { to, ra, rb } => Access::Neither,
+        Event::Tabortdc { to, ra, rb } => Access::Neither,
+        Event::Tsr { l } => Access::Neither,
+        Event::Tcheck { bf } => Access::Neither,
+        Event::Treclaim { ra } => Access::Neither,
+        Event::Trechkpt => Access::Neither,
+        Event::Mtspr { spr, ra } => Access::Neither,
+        Event::Mfspr { rt, spr } => Access::Neither,
+        Event::Ld { rt, index } => Access::Load {
+            rt,
+            index,
+            low: 0,
+            width: 8,
+        },
+        Event::Std { ra, index } => Access::Store {
+            ra,
+            index,
+            low: 0,
+            width: 8,
+        },
+        Event::Addi { rt, ra, si } => Access::Neither,
+        Event::Disallowed => Access::Neither,
+        Event::Interrupt => Access::Neither,
+        Event::Host { pr, tm } => Access::Neither,
+        Event::Rfid => Access::Neither,
+        Event::Mtmsrd { t, s, tm, pr } => Access::Neither,
+        Event::Lbz { rt, address } => narrow_load(rt, address, 1),
+        Event::Lhz { rt, address } => narrow_load(rt, address, 2),
+        Event::Lwz { rt, address } => narrow_load(rt, address, 4),
+        Event::Stb { ra, address } => narrow_store(ra, address, 1),
+        Event::Sth { ra, address } => narrow_store(ra, address, 2),
+        Event::Stw { ra, address } => narrow_store(ra, address, 4),
+        Event::Tlbie { page } => Access::Neither,
+    }
+}
+
+// An event that loads and stores nothing, on its own thread's rows and on memory.
+fn other(
     gpr: &mut [u64; GPRS],
     cr: &mut [u8; CR_FIELDS],
     kgpr: &mut [u64; GPRS],
@@ -91,6 +179,7 @@ pub fn effect(
     e: Event,
 ) -> Went
     requires { ⌜ Ready e (standing (now gpr) (now cr) (now kgpr) (now kcr) (now words) (now ix) (now vl)) (length (now mem)) ⌝ }
+    requires { ⌜ accesses e ≡ Neither ⌝ }
     ensures { λ r. ⌜ record { answer = r .answer; thread = standing (now (gpr .exit)) (now (cr .exit)) (now (kgpr .exit)) (now (kcr .exit)) (now (words .exit)) (now (ix .exit)) (now (vl .exit)); touch = r .touch; memory = now (mem .exit) } ≡ landed (effect e (standing (now (gpr .entry)) (now (cr .entry)) (now (kgpr .entry)) (now (kcr .entry)) (now (words .entry)) (now (ix .entry)) (now (vl .entry))) (now (mem .entry))) (held (head-of (now (words .entry))) (now (ix .entry)) (now (vl .entry))) (now (mem .entry)) ⌝ }
 {
     match e {
@@ -117,26 +206,6 @@ pub fn effect(
             quiet(by_value(gpr, cr, kgpr, kcr, words, ix, vl, rare))
         }
         Event::Mfspr { rt, spr } => quiet(power_special::mfspr(gpr, words, rt, spr)),
-        Event::Ld { rt, index } => {
-            load(
-                gpr,
-                cr,
-                &*kgpr,
-                &*kcr,
-                words,
-                &*ix,
-                &*vl,
-                &*mem,
-                rt,
-                index,
-                0,
-                8,
-            )
-        }
-        Event::Std { ra, index } => {
-            let v = gpr[ra as usize];
-            store(gpr, cr, &*kgpr, &*kcr, words, ix, vl, mem, index, ALL, v)
-        }
         Event::Addi { rt, ra, si } => quiet(power_plain::addi(gpr, words, rt, ra, si)),
         Event::Disallowed => quiet(power_plain::disallowed(gpr, cr, &*kgpr, &*kcr, words)),
         Event::Interrupt => quiet(power_plain::interrupt(words)),
@@ -146,63 +215,77 @@ pub fn effect(
             let asked = Asked { t, s, tm, pr };
             quiet(power_returns::mtmsrd(gpr, cr, &*kgpr, &*kcr, words, asked))
         }
-        Event::Lbz { rt, address } => {
-            narrow::load(
-                gpr,
-                cr,
-                &*kgpr,
-                &*kcr,
-                words,
-                &*ix,
-                &*vl,
-                &*mem,
-                1,
-                rt,
-                address,
-            )
-        }
-        Event::Lhz { rt, address } => {
-            narrow::load(
-                gpr,
-                cr,
-                &*kgpr,
-                &*kcr,
-                words,
-                &*ix,
-                &*vl,
-                &*mem,
-                2,
-                rt,
-                address,
-            )
-        }
-        Event::Lwz { rt, address } => {
-            narrow::load(
-                gpr,
-                cr,
-                &*kgpr,
-                &*kcr,
-                words,
-                &*ix,
-                &*vl,
-                &*mem,
-                4,
-                rt,
-                address,
-            )
-        }
-        Event::Stb { ra, address } => {
-            let v = gpr[ra as usize];
-            narrow::store(gpr, cr, &*kgpr, &*kcr, words, ix, vl, mem, 1, v, address)
-        }
-        Event::Sth { ra, address } => {
-            let v = gpr[ra as usize];
-            narrow::store(gpr, cr, &*kgpr, &*kcr, words, ix, vl, mem, 2, v, address)
-        }
-        Event::Stw { ra, address } => {
-            let v = gpr[ra as usize];
-            narrow::store(gpr, cr, &*kgpr, &*kcr, words, ix, vl, mem, 4, v, address)
-        }
         Event::Tlbie { page } => power_access::page::tlbie(gpr, cr, &*kgpr, &*kcr, words, page),
+        Event::Ld { rt, index } => quiet(0),
+        Event::Std { ra, index } => quiet(0),
+        Event::Lbz { rt, address } => quiet(0),
+        Event::Lhz { rt, address } => quiet(0),
+        Event::Lwz { rt, address } => quiet(0),
+        Event::Stb { ra, address } => quiet(0),
+        Event::Sth { ra, address } => quiet(0),
+        Event::Stw { ra, address } => quiet(0),
+    }
+}
+
+// The event on its own thread's rows and on memory.
+pub fn effect(
+    gpr: &mut [u64; GPRS],
+    cr: &mut [u8; CR_FIELDS],
+    kgpr: &mut [u64; GPRS],
+    kcr: &mut [u8; CR_FIELDS],
+    words: &mut [u64; HEAD],
+    ix: &mut [u32; PLACES],
+    vl: &mut [u64; VALUES],
+    mem: &mut [u64],
+    e: Event,
+) -> Went
+    requires { ⌜ Ready e (standing (now gpr) (now cr) (now kgpr) (now kcr) (now words) (now ix) (now vl)) (length (now mem)) ⌝ }
+    ensures { λ r. ⌜ record { answer = r .answer; thread = standing (now (gpr .exit)) (now (cr .exit)) (now (kgpr .exit)) (now (kcr .exit)) (now (words .exit)) (now (ix .exit)) (now (vl .exit)); touch = r .touch; memory = now (mem .exit) } ≡ landed (effect e (standing (now (gpr .entry)) (now (cr .entry)) (now (kgpr .entry)) (now (kcr .entry)) (now (words .entry)) (now (ix .entry)) (now (vl .entry))) (now (mem .entry))) (held (head-of (now (words .entry))) (now (ix .entry)) (now (vl .entry))) (now (mem .entry)) ⌝ }
+{
+    let a = accesses(e);
+    match a {
+        Access::Load {
+            rt,
+            index,
+            low,
+            width,
+        } => load(
+            gpr,
+            cr,
+            &*kgpr,
+            &*kcr,
+            words,
+            &*ix,
+            &*vl,
+            &*mem,
+            rt,
+            index,
+            low,
+            width,
+        ),
+        Access::Store {
+            ra,
+            index,
+            low,
+            width,
+        } => {
+            let v = gpr[ra as usize];
+            let value = narrow::given(low, width, v);
+            let marks = narrow::marks(low, width);
+            store(
+                gpr,
+                cr,
+                &*kgpr,
+                &*kcr,
+                words,
+                ix,
+                vl,
+                mem,
+                index,
+                marks,
+                value,
+            )
+        }
+        Access::Neither => other(gpr, cr, kgpr, kcr, words, ix, vl, mem, e),
     }
 }

@@ -92,8 +92,8 @@ pub fn of_kind(f: Fields, zero: bool) -> Read
     }
 }
 
-// The event of fields of a right kind, with a case for each frequent kind: tbegin., tend., ld, std, addi. There the compiler knows the event's
-// shape.
+// The event of fields of a right kind, with a case for each frequent kind: tbegin., tend., ld, std, addi, lwz, stw. There the compiler knows
+// the event's shape. Any other event comes back in a place of its own: were it that of the frequent ones, all would go through memory.
 fn frequent(f: Fields) -> Event
     ensures { λ e. ⌜ e ≡ event-of f ⌝ }
 {
@@ -109,7 +109,15 @@ fn frequent(f: Fields) -> Event
         12 => Event::Ld { rt: x, index },
         13 => Event::Std { ra, index },
         14 => Event::Addi { rt: x, ra, si },
-        _ => event::event_of(f),
+        22 => Event::Lwz {
+            rt: x,
+            address: index,
+        },
+        25 => Event::Stw { ra, address: index },
+        _ => {
+            let other = event::event_of(f);
+            other
+        }
     }
 }
 

@@ -28,9 +28,17 @@ unfolding event-of
 returns-5 c = simp (c .match .keys5)
 
 returns-6 : tie.Need-returns-6
-returns-6 c = search needs
+unfolding event-of
+returns-6 c = simp (c .match .keys6)
+
+returns-7 : tie.Need-returns-7
+unfolding event-of
+returns-7 c = simp (c .match .keys7)
+
+returns-8 : tie.Need-returns-8
+returns-8 c = search needs
 
 pub frequent-spec : {M : Type 1} → statement M
 frequent-spec =
     tie.close
-    (tie.spec event-of-requires returns returns-2 returns-3 returns-4 returns-5 returns-6)
+    (tie.spec event-of-requires returns returns-2 returns-3 returns-4 returns-5 returns-6 returns-7 returns-8)
