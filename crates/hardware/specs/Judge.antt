@@ -5,7 +5,7 @@ use lib.Bits.{bitAnd, bitXor}
 use lib.Dec.{eqb, leb}
 use Rattle.base.specs.Below.{bit}
 use Rattle.base.specs.Limits.{most-levels}
-use Rattle.thread.specs.Texasr.{weight}
+use Rattle.thread.specs.Texasr.{weight, tl}
 use Rattle.hardware.specs.Fields.{bit-at, told}
 use Rattle.hardware.specs.Table.{is-imprecise, may-be-late, is-sooner}
 use Rattle.hardware.specs.Render.{value, care}
@@ -35,32 +35,46 @@ by-bits d = cond (eqb d 0) (judgement Equal 0) (judgement Contradicts d)
 abbrev pub may-go-on : Profile → ℕ → Bool
 may-go-on p b = leb 10 b && (leb b 13 || (eqb b 14 && p .late))
 
--- hardware went on (k = 0) or failed by cause k, where the model went on (b = 0) or failed by another cause b.
+-- hardware went on (k = 0) to level 0: it committed, past an invalidation (14), which fails it at the latest then (8.3.1)
+abbrev pub is-committed : ℕ → ℕ → ℕ → Bool
+is-committed b k l = eqb b 14 && (eqb k 0 && eqb l 0)
+
+-- hardware went on (k = 0) or failed by cause k at level l, where the model went on (b = 0) or failed by another cause b.
 -- Where it may go on, it may also meet the program's next abort, disallowed act or overflow. Else these are the tape's, but for nesting at a
 -- lower limit than the model's (8.4.2). By 10 to 16 it may fail at any time: tracking may be shared, blocks be larger, pages be invalidated
 -- (8.3.1; 8.4.2 bits 10, 15 and 16)
-abbrev pub may-differ : Profile → ℕ → ℕ → Bool
-may-differ p b k = may-go-on p b || (is-sooner p k || is-imprecise k)
+abbrev pub may-differ : Profile → ℕ → ℕ → ℕ → Bool
+may-differ p b k l = (may-go-on p b && not (is-committed b k l)) || (is-sooner p k || is-imprecise k)
 
 abbrev pub chosen : Bool → Verdict
 chosen true = Allowed
 chosen false = Contradicts
 
--- by another cause: what hardware shows must first have the form that the text gives that cause
+-- a failure at level 0: a transaction has one from 1 on, and recording leaves it (8.3.2)
+abbrev pub is-lost : ℕ → Bool
+is-lost h = leb 8 (told h) && eqb (tl h) 0
+
+-- what a hardware value has otherwise than the text gives it for its own cause
+unfoldable pub form : Profile → ℕ → ℕ
+form p h = cond (eqb (differing p h h) 0) (bit (is-lost h) * (2 ^ 12 - 1)) (differing p h h)
+
+-- by another cause: what hardware shows must first have the form of that cause
 abbrev pub otherwise : Profile → ℕ → ℕ → Judged
 otherwise p x h =
-    cond (eqb (differing p h h) 0) (judgement (chosen (may-differ p (told x) (told h))) (bitAnd (bitXor h x) telling))
-    (judgement Contradicts (differing p h h))
+    cond (eqb (form p h) 0) (judgement (chosen (may-differ p (told x) (told h) (tl h))) (bitAnd (bitXor h x) telling))
+    (judgement Contradicts (form p h))
 
 -- by 10 to 16 with other bits (d): it may be another failure by the same cause, of another moment, if it has its own right form
 abbrev pub again : ℕ → ℕ → Judged
-again d form = cond (eqb form 0) (judgement Allowed d) (judgement Contradicts form)
+again d wrong = cond (eqb wrong 0) (judgement Allowed d) (judgement Contradicts wrong)
+
+-- other bits; or level 0, where the level itself is not compared and the value has one
+unfoldable pub is-other : Profile → ℕ → ℕ → Bool
+is-other p x h = not (eqb (differing p x h) 0) || (eqb (tl h) 0 && not (eqb (tl (value p x)) 0))
 
 -- by the same cause, or none on both sides
 abbrev pub same : Profile → ℕ → ℕ → Judged
-same p x h =
-    cond (not (eqb (differing p x h) 0) && is-imprecise (told x)) (again (differing p x h) (differing p h h))
-    (by-bits (differing p x h))
+same p x h = cond (is-imprecise (told x) && is-other p x h) (again (differing p x h) (form p h)) (by-bits (differing p x h))
 
 unfoldable pub judged : Profile → ℕ → ℕ → Judged
 judged p x h =

@@ -2,7 +2,7 @@
 ghost use mathlib.Core.Path.{_≡_};
 ghost use mathlib.Core.Bool.{cond};
 ghost use Prim.Native.Nat.{_<_};
-ghost use Rattle.hardware.specs.Judge.{differing, by-bits, may-go-on, may-differ, chosen, otherwise, again, same, judged, tfiar, hidden, addressed, tfiar-care, tfiar-differing, tfhar-differing, cr0-differing, elsewhere, with-others, compared};
+ghost use Rattle.hardware.specs.Judge.{differing, by-bits, may-go-on, is-committed, may-differ, chosen, is-lost, form, otherwise, again, is-other, same, judged, tfiar, hidden, addressed, tfiar-care, tfiar-differing, tfhar-differing, cr0-differing, elsewhere, with-others, compared};
 use crate::Compared;
 use crate::Judged;
 use crate::Profile;
@@ -14,6 +14,8 @@ use crate::table;
 
 // Bits 8:31 and FS.
 const TELLING: u64 = 0x00FF_FFFF_0800_0000;
+
+const LEVEL: u64 = 0xFFF;
 
 // All bits of an address but its two low ones.
 const ADDRESS: u64 = 0xFFFF_FFFF_FFFF_FFFC;
@@ -46,11 +48,18 @@ fn may_go_on(p: Profile, b: u64) -> bool
     (10 <= b) & ((b <= 13) | ((b == 14) & p.late))
 }
 
-// Hardware went on or failed by cause k where the model went on or failed by cause b.
-fn may_differ(p: Profile, b: u64, k: u64) -> bool
-    ensures { λ r. ⌜ r ≡ may-differ p b k ⌝ }
+// Past an invalidation.
+fn is_committed(b: u64, k: u64, l: u64) -> bool
+    ensures { λ r. ⌜ r ≡ is-committed b k l ⌝ }
 {
-    may_go_on(p, b) | (table::is_sooner(p, k) | table::is_imprecise(k))
+    (b == 14) & ((k == 0) & (l == 0))
+}
+
+// Hardware went on or failed by cause k at level l where the model went on or failed by cause b.
+fn may_differ(p: Profile, b: u64, k: u64, l: u64) -> bool
+    ensures { λ r. ⌜ r ≡ may-differ p b k l ⌝ }
+{
+    (may_go_on(p, b) & !is_committed(b, k, l)) | (table::is_sooner(p, k) | table::is_imprecise(k))
 }
 
 fn chosen(b: bool) -> Verdict
@@ -63,13 +72,30 @@ fn chosen(b: bool) -> Verdict
     }
 }
 
+fn is_lost(h: u64) -> bool
+    ensures { λ r. ⌜ r ≡ is-lost h ⌝ }
+{
+    (8 <= fields::told(h)) & (thread::tl(h) == 0)
+}
+
+// What a value has otherwise than its own cause asks for.
+fn form(p: Profile, h: u64) -> u64
+    ensures { λ r. ⌜ r ≡ form p h ⌝ }
+{
+    let d = differing(p, h, h);
+    if d == 0 {
+        return base::bit(is_lost(h)) * LEVEL;
+    }
+    d
+}
+
 // By another cause than the model's, or none.
 fn otherwise(p: Profile, x: u64, h: u64) -> Judged
     ensures { λ r. ⌜ r ≡ otherwise p x h ⌝ }
 {
-    let form = differing(p, h, h);
-    if form == 0 {
-        let may = may_differ(p, fields::told(x), fields::told(h));
+    let wrong = form(p, h);
+    if wrong == 0 {
+        let may = may_differ(p, fields::told(x), fields::told(h), thread::tl(h));
         return Judged {
             verdict: chosen(may),
             bits: (h ^ x) & TELLING,
@@ -77,15 +103,15 @@ fn otherwise(p: Profile, x: u64, h: u64) -> Judged
     }
     Judged {
         verdict: Verdict::Contradicts,
-        bits: form,
+        bits: wrong,
     }
 }
 
 // By 10 to 16 with other bits.
-fn again(d: u64, form: u64) -> Judged
-    ensures { λ r. ⌜ r ≡ again d form ⌝ }
+fn again(d: u64, wrong: u64) -> Judged
+    ensures { λ r. ⌜ r ≡ again d wrong ⌝ }
 {
-    if form == 0 {
+    if wrong == 0 {
         return Judged {
             verdict: Verdict::Allowed,
             bits: d,
@@ -93,8 +119,15 @@ fn again(d: u64, form: u64) -> Judged
     }
     Judged {
         verdict: Verdict::Contradicts,
-        bits: form,
+        bits: wrong,
     }
+}
+
+// Other bits than the model's value asks for, or level 0.
+fn is_other(p: Profile, x: u64, h: u64) -> bool
+    ensures { λ r. ⌜ r ≡ is-other p x h ⌝ }
+{
+    !(differing(p, x, h) == 0) | ((thread::tl(h) == 0) & !(thread::tl(render::value(p, x)) == 0))
 }
 
 // By the same cause.
@@ -102,8 +135,8 @@ fn same(p: Profile, x: u64, h: u64) -> Judged
     ensures { λ r. ⌜ r ≡ same p x h ⌝ }
 {
     let d = differing(p, x, h);
-    if !(d == 0) & table::is_imprecise(fields::told(x)) {
-        return again(d, differing(p, h, h));
+    if table::is_imprecise(fields::told(x)) & is_other(p, x, h) {
+        return again(d, form(p, h));
     }
     by_bits(d)
 }

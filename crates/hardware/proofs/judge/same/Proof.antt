@@ -12,20 +12,23 @@ told-requires c κs = search needs
 is-imprecise-requires : tie.Need-is-imprecise-requires
 is-imprecise-requires c κs = search needs
 
-differing-requires-2 : tie.Need-differing-requires-2
-differing-requires-2 c κs = search needs
+is-other-requires : tie.Need-is-other-requires
+is-other-requires c κs = search needs
+
+form-requires : tie.Need-form-requires
+form-requires c κs = search needs
 
 again-requires : tie.Need-again-requires
 again-requires c κs = search needs
 
 returns : tie.Need-returns
-returns c = simp (← c .before .before .before .before .before .differing .ensures, ← c .before .before .before .before .told .ensures, ← c .before .before .before .is-imprecise .ensures, c .before .before .if1 .taken, c .again .ensures, c .before .differing2 .ensures)
+returns c = simp (← c .before .before .before .before .before .before .differing .ensures, ← c .before .before .before .before .before .told .ensures, ← c .before .before .before .before .is-imprecise .ensures, ← c .before .before .before .is-other .ensures, c .before .before .if1 .taken, c .again .ensures, c .before .form .ensures)
 
 by-bits-requires : tie.Need-by-bits-requires
 by-bits-requires c κs = search needs
 
 returns-2 : tie.Need-returns-2
-returns-2 c = simp (← c .before .before .before .before .differing .ensures, ← c .before .before .before .told .ensures, ← c .before .before .is-imprecise .ensures, c .before .if1 .left, c .by-bits .ensures)
+returns-2 c = simp (← c .before .before .before .before .before .differing .ensures, ← c .before .before .before .before .told .ensures, ← c .before .before .before .is-imprecise .ensures, ← c .before .before .is-other .ensures, c .before .if1 .left, c .by-bits .ensures)
 
 pub same-spec : {M : Type 1} → statement M
 same-spec =
@@ -34,7 +37,8 @@ same-spec =
     differing-requires
     told-requires
     is-imprecise-requires
-    differing-requires-2
+    is-other-requires
+    form-requires
     again-requires
     returns
     by-bits-requires
