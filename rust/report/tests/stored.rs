@@ -204,7 +204,9 @@ fn commits_under_rot() {
         "contradicts: TEXASR 38 ROT"
     );
     let abort = "0 0x000000011E000001";
-    let tape: Tape = own(vec![rot, Event::Tabort { ra: 0 }]).into_iter().collect();
+    let tape: Tape = own(vec![rot, Event::Tabort { ra: 0 }])
+        .into_iter()
+        .collect();
     for next in ["0 0x2000000", "0 0x0"] {
         let reads = read::reads(format!("{abort}\n{next}").as_bytes()).expect("two lines");
         let report = Report::of(&tape).expect("a tape");
