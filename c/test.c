@@ -1264,6 +1264,9 @@ static void hardware(void) {
   judges(plain, 1, NASZEPTAN_ALLOWED, plain & UINT64_C(0x00FFFFFF08000000));
   judges(m.texasr, 1, NASZEPTAN_CONTRADICTS, bit_31 | bit_36);
   judges(1, m.texasr, NASZEPTAN_CONTRADICTS, bit_31 | bit_36);
+  judges(plain, m.texasr, NASZEPTAN_ALLOWED, (plain ^ m.texasr) >> 32 << 32);
+  judges(plain, plain - 1, NASZEPTAN_CONTRADICTS, 0xFFF);
+  judges(1, bit_31 | 1, NASZEPTAN_CONTRADICTS, bit_31);
   h.tfiar = 9, h.tfhar = 6, h.cr0 = 3;
   said = naszeptan_compare(any, m, h);
   CHECK(said.verdict == NASZEPTAN_CONTRADICTS && said.texasr == 0);

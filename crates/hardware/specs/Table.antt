@@ -1,7 +1,8 @@
 -- What the Power ISA text fixes for each cause, which is told by its bit from 8 on (rules B3 to B5).
 use Prim.Native.Nat.{ℕ, zero, suc, _+_, _-_, _%_, _^_}
 use mathlib.Core.Bool.{Bool, true, false, cond, _&&_, _||_}
-use lib.Dec.{eqb, leb}
+use lib.Dec.{eqb, leb, ltb}
+use Rattle.base.specs.Limits.{most-levels}
 use Rattle.hardware.specs.declared.Seventh.{Seventh}
 use Rattle.hardware.specs.declared.Seventh.the-variants.{Free, Zero, One}
 use Rattle.hardware.specs.declared.Profile.{Profile}
@@ -35,8 +36,15 @@ exact b was = cond (may-be-exact b) was (cond (is-exact b) 1 0)
 
 -- every cause but disallowed, nesting and abort is imprecise (8.3.1), and recording of an imprecise one may wait until handling (8.3.1; the
 -- note at 8.4.2 bits 34:35)
+abbrev pub is-imprecise : ℕ → Bool
+is-imprecise b = leb 10 b && leb b 16
+
 abbrev pub may-be-late : Profile → ℕ → Bool
-may-be-late p b = p .late && (leb 10 b && leb b 16)
+may-be-late p b = p .late && is-imprecise b
+
+-- with a lower highest level than the model's an earlier tbegin. overflows, maybe with another PR; and under a ROT that a later one ended
+abbrev pub is-sooner : Profile → ℕ → Bool
+is-sooner p b = eqb b 9 && ltb (p .highest) most-levels
 
 -- the level: recording leaves it (8.3.2), and at a nesting overflow it is the highest (tbegin. in 8.5), which is the processor's (8.4.2)
 abbrev pub level : Profile → ℕ → ℕ → ℕ

@@ -1,7 +1,7 @@
 // What the Power ISA text fixes for each cause, which is told by its bit.
 ghost use mathlib.Core.Path.{_≡_};
 ghost use Prim.Native.Nat.{_<_, _^_};
-ghost use Rattle.hardware.specs.Table.{seven, is-free, first-byte, may-be-exact, is-exact, exact, may-be-late, level, level-bits, level-care, is-highest};
+ghost use Rattle.hardware.specs.Table.{seven, is-free, first-byte, may-be-exact, is-exact, exact, is-imprecise, may-be-late, is-sooner, level, level-bits, level-care, is-highest};
 use crate::Profile;
 use crate::Seventh;
 
@@ -71,10 +71,23 @@ pub fn exact(b: u64, was: u64) -> u64
     0
 }
 
+pub fn is_imprecise(b: u64) -> bool
+    ensures { λ r. ⌜ r ≡ is-imprecise b ⌝ }
+{
+    (10 <= b) & (b <= 16)
+}
+
 pub fn may_be_late(p: Profile, b: u64) -> bool
     ensures { λ r. ⌜ r ≡ may-be-late p b ⌝ }
 {
-    p.late & ((10 <= b) & (b <= 16))
+    p.late & is_imprecise(b)
+}
+
+// A nesting overflow at a lower highest level than the model's.
+pub fn is_sooner(p: Profile, b: u64) -> bool
+    ensures { λ r. ⌜ r ≡ is-sooner p b ⌝ }
+{
+    (b == 9) & (p.highest < base::LEVELS)
 }
 
 // The level's bits that count, which are also the highest level.

@@ -1,18 +1,18 @@
 -- The promises hold.
 use mathlib.Core.Path.{_≡_, refl, sym, ap, _∙_}
-use mathlib.Core.Bool.{Bool, true, false, cond}
+use mathlib.Core.Bool.{Bool, true, false, cond, not, _&&_}
 use Prim.Native.Nat.{ℕ, _+_, _-_, _*_, _/_, _%_, _<_, _^_}
 use native.Mathlib.Omega.{arith}
 use lib.Dec.{eqb, leb}
 use lib.Bits.{xor-self}
-use borrow.Author.Tests.{eq-eqb, ne-eqb}
+use borrow.Author.Tests.{eq-eqb, ne-eqb, eqb-true}
 use Rattle.base.specs.Below.{bit}
 use Rattle.base.proofs.Below.{bit-lt}
 use Rattle.thread.specs.Texasr.{weight, fs, rot, tl, upper, packed}
 use Rattle.hardware.specs.Fields.{bit-at, code, causes, named, one-of, told}
 use Rattle.hardware.specs.Table.{seven, first-byte, may-be-exact, is-exact, exact, level}
-use Rattle.hardware.specs.Render.{rendered, value, care}
-use Rattle.hardware.specs.Judge.{judged, judgement, tfiar, tfiar-differing, alike, only, compared}
+use Rattle.hardware.specs.Render.{rendered, going, value, care}
+use Rattle.hardware.specs.Judge.{form, is-other, judged, judgement, tfiar, tfiar-differing, alike, only, compared}
 use Rattle.hardware.specs.declared.Seventh.{Seventh}
 use Rattle.hardware.specs.declared.Seventh.the-variants.{Free, Zero, One}
 use Rattle.hardware.specs.declared.Profile.{Profile}
@@ -149,30 +149,55 @@ rendered-told : (p : Profile) (x b : ℕ) → told (rendered p x b) ≡ one-of n
 unfolding told
 rendered-told p x b = simp (eq-eqb _ _ (rendered-fs p x b), rendered-causes p x b)
 
+-- where no failure is recorded ROT and the level are kept, and FS = 0
+going-fs : (x : ℕ) → fs (going x) ≡ 0
+going-fs x = omega arith
+
+going-told : (x : ℕ) → told (going x) ≡ 0
+unfolding told
+going-told x = simp (going-fs x)
+
+going-again : (x : ℕ) → going (going x) ≡ going x
+going-again x = omega arith
+
 value-told : (p : Profile) (x : ℕ) → told (value p x) ≡ told x
 unfolding value
-value-told p x = go (leb 8 (told x)) refl
+value-told p x = go (leb 8 (told x)) (eqb (told x) 0) refl refl
   where
-    go : (t : Bool) → leb 8 (told x) ≡ t → told (value p x) ≡ told x
-    go true q = simp q (rendered-told p x (told x) ∙ sym (told-failed x q))
-    go false q = simp q
+    go : (t u : Bool) → leb 8 (told x) ≡ t → eqb (told x) 0 ≡ u → told (value p x) ≡ told x
+    go true u q r = simp q (rendered-told p x (told x) ∙ sym (told-failed x q))
+    go false true q r = simp (q, r) (going-told x ∙ sym (eqb-true (told x) 0 r))
+    go false false q r = simp (q, r)
 
 -- ---- the promises
 
 pub rendered-once : RenderedOnce
 unfolding value
-rendered-once p x = go (leb 8 (told x)) refl
+rendered-once p x = go (leb 8 (told x)) (eqb (told x) 0) refl refl
   where
-    go : (t : Bool) → leb 8 (told x) ≡ t → value p (value p x) ≡ value p x
-    go true q =
+    go : (t u : Bool) → leb 8 (told x) ≡ t → eqb (told x) 0 ≡ u → value p (value p x) ≡ value p x
+    go true u q r =
         let k : told (rendered p x (told x)) ≡ told x = rendered-told p x (told x) ∙ sym (told-failed x q) in
         simp (q, k) (rendered-again p x (told x))
-    go false q = simp q
+    go false true q r = simp (q, r, going-told x) (going-again x)
+    go false false q r = simp (q, r)
+
+not-both : (t : Bool) → (t && not t) ≡ false
+not-both true = refl
+not-both false = refl
+
+and-false : (t : Bool) → (t && false) ≡ false
+and-false true = refl
+and-false false = refl
+
+other-itself : (p : Profile) (x : ℕ) → is-other p x (value p x) ≡ false
+unfolding is-other
+other-itself p x = simp (xor-self (value p x)) (not-both (eqb (tl (value p x)) 0))
 
 pub equal-to-itself : EqualToItself
 unfolding judged
 equal-to-itself p x h =
-    simp (value-told p x, ne-eqb (told x) 1 h, eq-eqb (told x) (told x) refl, xor-self (value p x))
+    simp (value-told p x, ne-eqb (told x) 1 h, eq-eqb (told x) (told x) refl, other-itself p x, and-false, xor-self (value p x))
 
 either-zero : (t : Bool) → cond {A = ℕ} t 0 0 ≡ 0
 either-zero true = refl
@@ -267,7 +292,7 @@ bench =
     record { k3 = refl; k5 = refl; k5-exact = refl; k6 = refl; k7 = refl; k7-seven = refl; k7-zero = refl; k7-one = refl }
 
 pub verdicts : (late : Bool) → Verdicts late
-unfolding value care told one-of judged all-judged split
+unfolding value care told one-of form is-other judged all-judged split
 verdicts true =
     record {
       went-on = refl;
@@ -298,5 +323,18 @@ verdicts false =
     }
 
 pub decided : Decided
-unfolding value care told one-of judged
-decided = record { code = refl; two = refl; none = refl; deep = refl; depth = refl }
+unfolding value care told one-of form is-other judged
+decided =
+    record {
+      code = refl;
+      two = refl;
+      none = refl;
+      deep = refl;
+      depth = refl;
+      lost = refl;
+      committed = refl;
+      going = refl;
+      again = refl;
+      persistent = refl;
+      sooner = refl;
+    }

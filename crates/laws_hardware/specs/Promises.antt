@@ -150,23 +150,31 @@ pub record Verdicts (late : Bool) : Type 0 where
   pub went-on : split (profile false late Free) 0 (10 ∷ 11 ∷ 12 ∷ 13 ∷ 14 ∷ 15 ∷ 16 ∷ []) (8 ∷ 9 ∷ 31 ∷ []) ≡ true
   pub disallowed : split (profile false late Free) 8 (10 ∷ 11 ∷ 12 ∷ 13 ∷ 14 ∷ 15 ∷ 16 ∷ []) (0 ∷ 9 ∷ 31 ∷ []) ≡ true
   pub nesting : split (profile false late Free) 9 (10 ∷ 11 ∷ 12 ∷ 13 ∷ 14 ∷ 15 ∷ 16 ∷ []) (0 ∷ 8 ∷ 31 ∷ []) ≡ true
-  pub footprint : split (profile false late Free) 10 (0 ∷ 11 ∷ 12 ∷ 13 ∷ 14 ∷ 15 ∷ 16 ∷ []) (8 ∷ 9 ∷ 31 ∷ []) ≡ true
-  pub own-store : split (profile false late Free) 11 (0 ∷ 10 ∷ 12 ∷ 13 ∷ 14 ∷ 15 ∷ 16 ∷ []) (8 ∷ 9 ∷ 31 ∷ []) ≡ true
-  pub plain-conflict : split (profile false late Free) 12 (0 ∷ 10 ∷ 11 ∷ 13 ∷ 14 ∷ 15 ∷ 16 ∷ []) (8 ∷ 9 ∷ 31 ∷ []) ≡ true
-  pub conflict : split (profile false late Free) 13 (0 ∷ 10 ∷ 11 ∷ 12 ∷ 14 ∷ 15 ∷ 16 ∷ []) (8 ∷ 9 ∷ 31 ∷ []) ≡ true
-  pub translation : split (profile false late Free) 14 (10 ∷ 11 ∷ 12 ∷ 13 ∷ 15 ∷ 16 ∷ []) (8 ∷ 9 ∷ 31 ∷ []) ≡ true
-  pub translation-waits : all-judged (profile false late Free) 14 (cond late Allowed Contradicts) (0 ∷ []) ≡ true
+  pub footprint : split (profile false late Free) 10 (0 ∷ 8 ∷ 9 ∷ 11 ∷ 12 ∷ 13 ∷ 14 ∷ 15 ∷ 16 ∷ 31 ∷ []) [] ≡ true
+  pub own-store : split (profile false late Free) 11 (0 ∷ 8 ∷ 9 ∷ 10 ∷ 12 ∷ 13 ∷ 14 ∷ 15 ∷ 16 ∷ 31 ∷ []) [] ≡ true
+  pub plain-conflict : split (profile false late Free) 12 (0 ∷ 8 ∷ 9 ∷ 10 ∷ 11 ∷ 13 ∷ 14 ∷ 15 ∷ 16 ∷ 31 ∷ []) [] ≡ true
+  pub conflict : split (profile false late Free) 13 (0 ∷ 8 ∷ 9 ∷ 10 ∷ 11 ∷ 12 ∷ 14 ∷ 15 ∷ 16 ∷ 31 ∷ []) [] ≡ true
+  pub translation : split (profile false late Free) 14 (10 ∷ 11 ∷ 12 ∷ 13 ∷ 15 ∷ 16 ∷ []) [] ≡ true
+  pub translation-waits : all-judged (profile false late Free) 14 (cond late Allowed Contradicts) (0 ∷ 8 ∷ 9 ∷ 31 ∷ []) ≡ true
   pub abort : split (profile false late Free) 31 (10 ∷ 11 ∷ 12 ∷ 13 ∷ 14 ∷ 15 ∷ 16 ∷ []) (0 ∷ 8 ∷ 9 ∷ []) ≡ true
   pub lower : split (record { highest = 15; hv = false; late = late; seventh = Free }) 0 (9 ∷ []) (8 ∷ 31 ∷ []) ≡ true
 
--- another code; two causes at once, and none; a level that the processor has not; nesting at a level that is not the highest: each with the
--- bits that decide it
+-- another code; two causes at once, and none; a level that the processor has not; nesting at a level that is not the highest; a failure at
+-- level 0; a transaction committed past an invalidation, and one that went on with a cause: each with the bits that decide it.
+-- A conflict at another level, recorded at once, is allowed, and one with bit 7 contradicts; nesting at a lower highest level is equal with
+-- another PR, and with ROT
 pub record Decided : Type 0 where
   pub code : judged (profile false true Free) 0x8C0000011C000001 0x8D0000011C000001 ≡ judgement Contradicts (weight 7)
   pub two : judged (profile false true Free) 0x0008000018000001 0x000C000018000001 ≡ judgement Contradicts (weight 12 + weight 13 + weight 36)
   pub none : judged (profile false true Free) 0x0008000018000001 0x0000000018000001 ≡ judgement Contradicts (weight 36)
   pub deep : judged (record { highest = 15; hv = false; late = true; seventh = Free }) 0x000000011C000014 0x000000011C000004 ≡ judgement Contradicts 0x10
   pub depth : judged (profile false true Free) 0x0000000000000001 0x014000001C000001 ≡ judgement Contradicts (2 ^ 12 - 2)
+  pub lost : judged (profile false true Free) 0x0008000018000001 0x0008000018000000 ≡ judgement Contradicts (2 ^ 12 - 1)
+  pub committed : judged (profile false true Free) 0x0002000018000001 0x0000000000000000 ≡ judgement Contradicts (weight 14 + weight 36)
+  pub going : judged (profile false true Free) 0x0000000000000001 0x0008000010000001 ≡ judgement Contradicts (weight 12 + weight 35)
+  pub again : judged (profile false false Free) 0x0008000018000001 0x0008000018000002 ≡ judgement Allowed 3
+  pub persistent : judged (profile false false Free) 0x0008000018000001 0x0108000018000002 ≡ judgement Contradicts (weight 7)
+  pub sooner : judged (record { highest = 15; hv = false; late = true; seventh = Free }) 0x004000001C000FFF 0x014000000E00000F ≡ judgement Equal 0
 
 -- ---- bench values by the text, on a processor with HV = 0 and the model's highest level
 

@@ -183,13 +183,15 @@ impl Report {
         counts
     }
 
-    /// The registers of a thread that went on: as they stand where no failure
-    /// is recorded in them, else those behind a commit.
-    pub fn went_on(&self, thread: u8) -> FailureRegisters {
+    /// The registers of a thread that went on, to hold a TEXASR to that was
+    /// read: as they stand where no failure is recorded in them, else those
+    /// behind the commit of a transaction that the tape has not, and so with
+    /// ROT as it was read.
+    pub fn went_on(&self, thread: u8, read: Texasr) -> FailureRegisters {
         let last = self.last.get(usize::from(thread)).copied();
         let mut registers = last.unwrap_or_default();
         if registers.texasr.failed() {
-            registers.texasr = Texasr(0);
+            registers.texasr = Texasr(read.0 & ROT);
         }
         registers
     }
@@ -215,11 +217,28 @@ impl Row {
         }
     }
 
+    /// The registers to hold a CR0 to that was read: of a reclaim it may have
+    /// been read right after treclaim., or by the handler that trechkpt. leads
+    /// to (rule B8).
+    pub fn read_with(&self, cr0: Option<u8>) -> FailureRegisters {
+        let handler = self.handler();
+        match cr0 {
+            Some(0b1010 | 0b1011) if self.is_reclaim() => FailureRegisters {
+                cr0: 0b1010,
+                ..handler
+            },
+            _ => handler,
+        }
+    }
+
     /// A treclaim. of the thread's transaction.
     pub fn is_reclaim(&self) -> bool {
         matches!(self.event, Event::Treclaim { .. })
     }
 }
+
+/// Bit 38 of TEXASR.
+const ROT: u64 = 1 << (63 - 38);
 
 /// Rule M12.
 fn live(thread: &Thread) -> bool {

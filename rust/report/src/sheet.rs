@@ -60,14 +60,16 @@ impl Sheet {
             entries.push(Entry {
                 row,
                 shown: profile.shown(row.registers.texasr).ok(),
-                judged: read.flatten().and_then(|read| judge(read, &row.handler())),
+                judged: read
+                    .flatten()
+                    .and_then(|read| judge(read, &row.read_with(read.cr0))),
             });
         }
         let mut rest: Vec<Read> = queues.into_iter().flatten().collect();
         rest.sort_by_key(|read| read.line);
         let rest = rest.into_iter();
         let further = rest
-            .filter_map(|read| judge(read, &report.went_on(read.thread)))
+            .filter_map(|read| judge(read, &report.went_on(read.thread, read.texasr.into())))
             .collect();
         Sheet {
             report,

@@ -6,7 +6,7 @@
 use std::fs;
 use std::path::PathBuf;
 
-use naszeptan::{Event, Profile, Report, Tape};
+use naszeptan::{Event, Profile, Report, Tape, Verdict};
 use report::{json, read, text, Sheet};
 
 /// A name, and the events by their threads.
@@ -155,6 +155,63 @@ fn each_cause() {
         let text = text::text(&sheet, name);
         held(file.with_extension("txt"), text.as_bytes());
         held(file.with_extension("json"), json::json(&sheet).as_bytes());
+    }
+}
+
+/// One line read on hardware beside a tape of thread 0, by its verdict.
+fn verdict(events: Vec<Event>, line: &str) -> String {
+    let tape: Tape = own(events).into_iter().collect();
+    let report = Report::of(&tape).expect("a tape");
+    let reads = read::reads(line.as_bytes()).expect("lines without a mistake");
+    let sheet = Sheet::new(report, Profile::default(), Some(&reads));
+    let rows = sheet.entries.iter().filter_map(|entry| entry.judged);
+    let mut judged = rows.chain(sheet.further.iter().copied());
+    judged.next().expect("a line").said.to_string()
+}
+
+/// CR0 right after treclaim., and as the handler reads it after trechkpt.
+#[test]
+fn reclaims_in_cr0() {
+    for (cr0, wanted) in [
+        ("0100", "equal"),
+        ("0101", "equal"),
+        ("1010", "equal"),
+        ("1011", "equal"),
+        ("-", "equal"),
+        ("0010", "contradicts: CR0 bits 0110"),
+        ("0000", "contradicts: CR0 bits 0100"),
+    ] {
+        let events = vec![PRIVILEGED, CODE, BEGIN, Event::Treclaim { ra: 3 }];
+        let line = format!("0 0x8D0000010C000001 - - {cr0}");
+        assert_eq!(verdict(events, &line), wanted, "{cr0}");
+    }
+    let abort = verdict(
+        vec![BEGIN, Event::Tabort { ra: 0 }],
+        "0 0x000000011C000001 - - 0100",
+    );
+    assert_eq!(abort, "contradicts: CR0 bits 1110");
+}
+
+/// A commit under ROT: of the tape's own transaction, and of one behind its
+/// last failure, which the tape has not.
+#[test]
+fn commits_under_rot() {
+    let rot = Event::Tbegin { r: true };
+    let end = Event::Tend { a: false };
+    assert_eq!(verdict(vec![rot, end], "0 0x2000000"), "equal");
+    assert_eq!(
+        verdict(vec![BEGIN, end], "0 0x2000000"),
+        "contradicts: TEXASR 38 ROT"
+    );
+    let abort = "0 0x000000011E000001";
+    let tape: Tape = own(vec![rot, Event::Tabort { ra: 0 }])
+        .into_iter()
+        .collect();
+    for next in ["0 0x2000000", "0 0x0"] {
+        let reads = read::reads(format!("{abort}\n{next}").as_bytes()).expect("two lines");
+        let report = Report::of(&tape).expect("a tape");
+        let sheet = Sheet::new(report, Profile::default(), Some(&reads));
+        assert_eq!(sheet.verdicts().collect::<Vec<_>>(), [Verdict::Equal; 2]);
     }
 }
 

@@ -15,15 +15,12 @@ returns c = simp (← c .before .told .ensures, eq-eqb _ _ (c .if1 .taken))
 told-requires-2 : tie.Need-told-requires-2
 told-requires-2 c κs = search needs
 
-differing-requires : tie.Need-differing-requires
-differing-requires c κs = search needs
-
-by-bits-requires : tie.Need-by-bits-requires
-by-bits-requires c κs = search needs
+same-requires : tie.Need-same-requires
+same-requires c κs = search needs
 
 returns-2 : tie.Need-returns-2
 unfolding judged
-returns-2 c = simp (← c .before .before .before .before .before .told .ensures, ne-eqb _ _ (c .before .before .before .before .if1 .left), ← c .before .before .before .told2 .ensures, eq-eqb _ _ (c .before .before .if2 .taken), c .by-bits .ensures, c .before .differing .ensures)
+returns-2 c = simp (← c .before .before .before .before .told .ensures, ne-eqb _ _ (c .before .before .before .if1 .left), ← c .before .before .told2 .ensures, eq-eqb _ _ (c .before .if2 .taken), c .same .ensures)
 
 otherwise-requires : tie.Need-otherwise-requires
 otherwise-requires c κs = search needs
@@ -39,8 +36,7 @@ judged-spec =
     told-requires
     returns
     told-requires-2
-    differing-requires
-    by-bits-requires
+    same-requires
     returns-2
     otherwise-requires
     returns-3)

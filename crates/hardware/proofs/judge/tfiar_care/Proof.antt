@@ -1,5 +1,4 @@
 -- `hardware::judge::tfiar_care` meets its contract.
-use native.Mathlib.Nat.{add-zero}
 use native.Mathlib.Omega.{arith}
 use borrow.Author.Needs.{needs}
 use Rattle.hardware.proofs.judge.tfiar_care.Statement.{statement}
@@ -17,14 +16,17 @@ mul-address c = omega (arith, c .bit .ensures .1)
 may-be-late-requires : tie.Need-may-be-late-requires
 may-be-late-requires c κs = search needs
 
-returns : tie.Need-returns
-returns c = simp (c .before .before .bit .ensures .0, c .before .before .before .addressed .ensures, ← c .before .may-be-late .ensures, c .if1 .taken, add-zero)
+is-sooner-requires : tie.Need-is-sooner-requires
+is-sooner-requires c κs = search needs
+
+low-care-requires : tie.Need-low-care-requires
+low-care-requires c κs = search needs
 
 add-result : tie.Need-add-result
-add-result c = omega (arith, c .before .before .bit .ensures .1)
+add-result c = omega (arith, c .low-care .ensures .1, c .before .before .before .bit .ensures .1)
 
-returns-2 : tie.Need-returns-2
-returns-2 c = simp (c .before .before .bit .ensures .0, c .before .before .before .addressed .ensures, ← c .before .may-be-late .ensures, c .if1 .left)
+returns : tie.Need-returns
+returns c = simp (c .low-care .ensures .0, c .before .is-sooner .ensures, c .before .before .may-be-late .ensures, c .before .before .before .bit .ensures .0, c .before .before .before .before .addressed .ensures)
 
 pub tfiar-care-spec : {M : Type 1} → statement M
 tfiar-care-spec =
@@ -34,6 +36,7 @@ tfiar-care-spec =
     bit-requires
     mul-address
     may-be-late-requires
-    returns
+    is-sooner-requires
+    low-care-requires
     add-result
-    returns-2)
+    returns)

@@ -33,17 +33,14 @@ returns : tie.Need-returns
 unfolding care
 returns c = simp (← c .before .before .before .before .before .told .ensures, le-leb _ _ (c .before .before .before .before .if1 .taken), c .care-exact .ensures .0, c .before .care-rot .ensures .0, c .before .before .care-state .ensures .0, c .before .before .before .care-cause .ensures .0)
 
-add-result-4 : tie.Need-add-result-4
-add-result-4 c = search needs
-
 tl-requires : tie.Need-tl-requires
 tl-requires c κs = search needs
 
 level-care-requires : tie.Need-level-care-requires
 level-care-requires c κs = search needs
 
-add-result-5 : tie.Need-add-result-5
-add-result-5 c = search needs
+add-result-4 : tie.Need-add-result-4
+add-result-4 c = search needs
 
 returns-2 : tie.Need-returns-2
 unfolding care
@@ -66,9 +63,8 @@ care-spec =
     care-exact-requires
     add-result-3
     returns
-    add-result-4
     tl-requires
     level-care-requires
-    add-result-5
+    add-result-4
     returns-2
     returns-3)

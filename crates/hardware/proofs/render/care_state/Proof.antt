@@ -15,6 +15,12 @@ tl-requires c κs = search needs
 level-requires : tie.Need-level-requires
 level-requires c κs = search needs
 
+is-sooner-requires : tie.Need-is-sooner-requires
+is-sooner-requires c κs = search needs
+
+care-problem-requires : tie.Need-care-problem-requires
+care-problem-requires c κs = search needs
+
 add-result : tie.Need-add-result
 add-result c = search needs
 
@@ -28,7 +34,7 @@ add-result-3 : tie.Need-add-result-3
 add-result-3 c = search needs
 
 returns-2 : tie.Need-returns-2
-returns-2 c = (simp (← c .before .before .before .before .may-be-late .ensures, c .before .before .before .if1 .left, c .level-care .ensures .0, c .before .level .ensures .0, c .before .before .tl .ensures .0), search needs)
+returns-2 c = (simp (← c .before .before .before .before .before .before .may-be-late .ensures, c .before .before .before .before .before .if1 .left, c .level-care .ensures .0, c .before .care-problem .ensures .0, c .before .before .is-sooner .ensures, c .before .before .before .level .ensures .0, c .before .before .before .before .tl .ensures .0), search needs)
 
 pub care-state-spec : {M : Type 1} → statement M
 care-state-spec =
@@ -38,6 +44,8 @@ care-state-spec =
     returns
     tl-requires
     level-requires
+    is-sooner-requires
+    care-problem-requires
     add-result
     add-result-2
     level-care-requires
