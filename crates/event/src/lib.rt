@@ -11,7 +11,10 @@ use rows::Row;
 use rows::Span;
 use rows::Use;
 use rows::When;
+use rows::access_line;
+use rows::bare_line;
 use rows::line;
+use rows::tm_line;
 
 // Short names for the table of rows.
 const NO: Use = Use::No;
@@ -170,34 +173,34 @@ pub struct Fields {
     pub si: u16,
 }
 
-// The row of a kind: X, RA, RB, largest flags, index, SI, TM instruction, privileged. A number that is no kind uses nothing.
+// The row of a kind. A number that is no kind uses nothing.
 pub fn row(kind: u8) -> Row
     ensures { λ r. ⌜ r ≡ row kind ⌝ }
 {
     match kind {
-        1..=2 => line(NO, NO, NO, 1, WITHOUT, false, ALWAYS, NEVER),
-        3 => line(NO, GPR, NO, 0, WITHOUT, false, ALWAYS, NEVER),
-        4..=5 => line(TO, GPR, GPR, 0, WITHOUT, false, ALWAYS, NEVER),
-        6 => line(NO, NO, NO, 1, WITHOUT, false, ALWAYS, NEVER),
-        7 => line(BF, NO, NO, 0, WITHOUT, false, ALWAYS, NEVER),
-        8 => line(NO, GPR, NO, 0, WITHOUT, false, ALWAYS, ALWAYS),
-        9 => line(NO, NO, NO, 0, WITHOUT, false, ALWAYS, ALWAYS),
+        1..=2 => tm_line(NO, NO, NO, 1, NEVER),
+        3 => tm_line(NO, GPR, NO, 0, NEVER),
+        4..=5 => tm_line(TO, GPR, GPR, 0, NEVER),
+        6 => tm_line(NO, NO, NO, 1, NEVER),
+        7 => tm_line(BF, NO, NO, 0, NEVER),
+        8 => tm_line(NO, GPR, NO, 0, ALWAYS),
+        9 => tm_line(NO, NO, NO, 0, ALWAYS),
         10..=11 => line(SPR, GPR, NO, 0, WITHOUT, false, TM_SPR, SRR),
-        12 => line(GPR, NO, NO, 0, DOUBLEWORD, false, NEVER, NEVER),
-        13 => line(NO, GPR, NO, 0, DOUBLEWORD, false, NEVER, NEVER),
+        12 => access_line(GPR, NO, DOUBLEWORD),
+        13 => access_line(NO, GPR, DOUBLEWORD),
         14 => line(GPR, GPR, NO, 0, WITHOUT, true, NEVER, NEVER),
-        15..=16 => line(NO, NO, NO, 0, WITHOUT, false, NEVER, NEVER),
-        17 => line(NO, NO, NO, 3, WITHOUT, false, NEVER, NEVER),
-        18 => line(NO, NO, NO, 0, WITHOUT, false, NEVER, ALWAYS),
-        19 => line(NO, NO, NO, 15, WITHOUT, false, NEVER, ALWAYS),
-        20 => line(GPR, NO, NO, 0, BYTE, false, NEVER, NEVER),
-        21 => line(GPR, NO, NO, 0, HALFWORD, false, NEVER, NEVER),
-        22 => line(GPR, NO, NO, 0, WORD, false, NEVER, NEVER),
-        23 => line(NO, GPR, NO, 0, BYTE, false, NEVER, NEVER),
-        24 => line(NO, GPR, NO, 0, HALFWORD, false, NEVER, NEVER),
-        25 => line(NO, GPR, NO, 0, WORD, false, NEVER, NEVER),
+        15..=16 => bare_line(0, NEVER),
+        17 => bare_line(3, NEVER),
+        18 => bare_line(0, ALWAYS),
+        19 => bare_line(15, ALWAYS),
+        20 => access_line(GPR, NO, BYTE),
+        21 => access_line(GPR, NO, HALFWORD),
+        22 => access_line(GPR, NO, WORD),
+        23 => access_line(NO, GPR, BYTE),
+        24 => access_line(NO, GPR, HALFWORD),
+        25 => access_line(NO, GPR, WORD),
         26 => line(NO, NO, NO, 0, PAGE, false, NEVER, ALWAYS),
-        _ => line(NO, NO, NO, 0, WITHOUT, false, NEVER, NEVER),
+        _ => bare_line(0, NEVER),
     }
 }
 
