@@ -11,7 +11,7 @@ use borrow.Author.Tests.{eq-eqb, ne-eqb, eqb-true, eqb-false, le-leb}
 use Rattle.event.specs.Event.{fields-of}
 use Rattle.event.specs.declared.Event.{Event}
 use Rattle.event.specs.declared.Fields.{Fields}
-use Rattle.event.specs.Rows.{kind-right, row}
+use Rattle.kinds.specs.Rows.{kind-right, row}
 use Rattle.tape.specs.Tape as three
 use Rattle.tape.specs.Tape.{record-size, first-byte, byte, unused-clear, judged, of-kind, record-at}
 use Rattle.tape.specs.declared.Read.{Read}

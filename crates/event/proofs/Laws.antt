@@ -7,13 +7,13 @@ use lib.Dec.{eqb}
 use borrow.Author.Tests.{eqb-true, ltb-true, leb-true}
 use Rattle.base.specs.Limits.{doubleword-bytes, page-size}
 use Rattle.base.proofs.Below.{and-left, and-right}
-use Rattle.event.specs.Rows.{row, in-range, addressed, in-memory, fields-right}
-use Rattle.event.specs.Event.{fields-of, kind, operands-right}
+use Rattle.kinds.specs.Rows.{row, in-range, addressed, in-memory}
+use Rattle.event.specs.Event.{fields-of, kind, fields-right, operands-right}
 use Rattle.event.specs.declared.Event.{Event}
 use Rattle.event.specs.declared.Event.the-variants.{Tabort, Tabortwc, Tabortdc, Tcheck, Treclaim, Mtspr, Mfspr, Ld, Std, Addi, Lbz, Lhz, Lwz, Stb, Sth, Stw, Tlbie}
 use Rattle.event.specs.declared.Fields.{Fields}
-use Rattle.event.specs.declared.rows.Use.the-variants.{Gpr}
-use Rattle.event.specs.declared.rows.Row.{Row}
+use Rattle.kinds.specs.declared.Use.the-variants.{Gpr}
+use Rattle.kinds.specs.declared.Row.{Row}
 
 -- the row's four tests
 record Right (r : Row) (f : Fields) (len : ℕ) : Type 0 where

@@ -1,9 +1,10 @@
 -- The twenty-six kinds of event (rules E1 to E26), the fields of each, and what its row tells.
 use Prim.Native.Nat.{ℕ, _+_, _*_, _/_, _%_}
-use mathlib.Core.Bool.{Bool, cond}
+use mathlib.Core.Bool.{Bool, _&&_, cond}
 use lib.Dec.{eqb}
 use Rattle.base.specs.Below.{bit}
-use Rattle.event.specs.Rows.{row, fields-right, holds}
+use Rattle.kinds.specs.Rows.{row, in-range, in-memory, holds}
+use Rattle.kinds.specs.declared.Row.{Row}
 use Rattle.event.specs.declared.Event.{Event}
 use Rattle.event.specs.declared.Event.the-variants.{Tbegin, Tend, Tabort, Tabortwc, Tabortdc, Tsr, Tcheck, Treclaim, Trechkpt, Mtspr, Mfspr, Ld, Std, Addi, Disallowed, Interrupt, Host, Rfid, Mtmsrd, Lbz, Lhz, Lwz, Stb, Sth, Stw, Tlbie}
 use Rattle.event.specs.declared.Fields.{Fields}
@@ -99,6 +100,11 @@ event-of f =
 unfoldable pub kind : Event → ℕ
 unfolding fields-of
 kind e = fields-of 0 e .kind
+
+-- number 4: each used field is in range, and what a used index names in a memory of len doublewords
+abbrev pub fields-right : Row → Fields → ℕ → Bool
+fields-right r f len =
+    in-range (r .x) (f .x) && in-range (r .ra) (f .ra) && in-range (r .rb) (f .rb) && in-memory (r .index) (f .index) len
 
 -- number 4: the operands are right over a memory of len doublewords
 unfoldable pub operands-right : Event → ℕ → Bool

@@ -1,51 +1,10 @@
-// The twenty-six kinds of event, each with its operands and nothing else (rules E1 to E26); the fields of each, and a row for each kind.
-pub mod rows;
-
+// The twenty-six kinds of event, each with its operands and nothing else (rules E1 to E26); the fields of each, and what its row in the table of kinds tells.
 ghost use mathlib.Core.Path.{_≡_};
 ghost use Prim.Native.Nat.{_+_, _*_, _/_, _%_, _≤_};
 ghost use lib.Dec.{eqb};
 ghost use Rattle.base.specs.Below.{bit};
-ghost use Rattle.event.specs.Rows.{row};
-ghost use Rattle.event.specs.Event.{fields, fields-of, event-of, kind, operands-right, tm-instruction, privileged};
-use rows::Row;
-use rows::Span;
-use rows::Use;
-use rows::When;
-use rows::access_line;
-use rows::bare_line;
-use rows::line;
-use rows::tm_line;
-
-// Short names for the table of rows.
-const NO: Use = Use::No;
-
-const GPR: Use = Use::Gpr;
-
-const TO: Use = Use::To;
-
-const BF: Use = Use::Bf;
-
-const SPR: Use = Use::Spr;
-
-const WITHOUT: Span = Span::Without;
-
-const DOUBLEWORD: Span = Span::Doubleword;
-
-const BYTE: Span = Span::Byte;
-
-const HALFWORD: Span = Span::Halfword;
-
-const WORD: Span = Span::Word;
-
-const PAGE: Span = Span::Page;
-
-const NEVER: When = When::Never;
-
-const ALWAYS: When = When::Always;
-
-const TM_SPR: When = When::TmSpr;
-
-const SRR: When = When::Srr;
+ghost use Rattle.event.specs.Event.{fields, fields-of, event-of, kind, fields-right, operands-right, tm-instruction, privileged};
+use kinds::Row;
 
 // Operands take any value of their width: the step refuses what is out of range. The thread is named beside the event. mtmsrd's T and S are
 // TS in two bits, the higher first.
@@ -171,37 +130,6 @@ pub struct Fields {
     pub flags: u8,
     pub index: u32,
     pub si: u16,
-}
-
-// The row of a kind. A number that is no kind uses nothing.
-pub fn row(kind: u8) -> Row
-    ensures { λ r. ⌜ r ≡ row kind ⌝ }
-{
-    match kind {
-        1..=2 => tm_line(NO, NO, NO, 1, NEVER),
-        3 => tm_line(NO, GPR, NO, 0, NEVER),
-        4..=5 => tm_line(TO, GPR, GPR, 0, NEVER),
-        6 => tm_line(NO, NO, NO, 1, NEVER),
-        7 => tm_line(BF, NO, NO, 0, NEVER),
-        8 => tm_line(NO, GPR, NO, 0, ALWAYS),
-        9 => tm_line(NO, NO, NO, 0, ALWAYS),
-        10..=11 => line(SPR, GPR, NO, 0, WITHOUT, false, TM_SPR, SRR),
-        12 => access_line(GPR, NO, DOUBLEWORD),
-        13 => access_line(NO, GPR, DOUBLEWORD),
-        14 => line(GPR, GPR, NO, 0, WITHOUT, true, NEVER, NEVER),
-        15..=16 => bare_line(0, NEVER),
-        17 => bare_line(3, NEVER),
-        18 => bare_line(0, ALWAYS),
-        19 => bare_line(15, ALWAYS),
-        20 => access_line(GPR, NO, BYTE),
-        21 => access_line(GPR, NO, HALFWORD),
-        22 => access_line(GPR, NO, WORD),
-        23 => access_line(NO, GPR, BYTE),
-        24 => access_line(NO, GPR, HALFWORD),
-        25 => access_line(NO, GPR, WORD),
-        26 => line(NO, NO, NO, 0, PAGE, false, NEVER, ALWAYS),
-        _ => bare_line(0, NEVER),
-    }
 }
 
 // A single bit among the flags.
@@ -339,12 +267,23 @@ pub fn kind(e: Event) -> u8
     fields_of(0, e).kind
 }
 
+// Each used field is in range, and what a used index names in a memory of len doublewords.
+fn fields_right(r: Row, f: Fields, len: usize) -> bool
+    ensures { λ b. ⌜ b ≡ fields-right r f len ⌝ }
+{
+    let x = r.x;
+    let ra = r.ra;
+    let rb = r.rb;
+    let index = r.index;
+    kinds::in_range(x, f.x) & kinds::in_range(ra, f.ra) & kinds::in_range(rb, f.rb) & kinds::in_memory(index, f.index, len)
+}
+
 // Number 4 is given unless the operands are right.
 pub fn operands_right(e: Event, len: usize) -> bool
     ensures { λ r. ⌜ r ≡ operands-right e len ⌝ }
 {
     let f = fields_of(0, e);
-    rows::fields_right(row(f.kind), f, len)
+    fields_right(kinds::table::row(f.kind), f, len)
 }
 
 // Number 11 is for these.
@@ -352,9 +291,9 @@ pub fn tm_instruction(e: Event) -> bool
     ensures { λ r. ⌜ r ≡ tm-instruction e ⌝ }
 {
     let f = fields_of(0, e);
-    let r = row(f.kind);
+    let r = kinds::table::row(f.kind);
     let when = r.tm;
-    rows::holds(when, f.x)
+    kinds::holds(when, f.x)
 }
 
 // Number 12 is for these.
@@ -362,7 +301,7 @@ pub fn privileged(e: Event) -> bool
     ensures { λ r. ⌜ r ≡ privileged e ⌝ }
 {
     let f = fields_of(0, e);
-    let r = row(f.kind);
+    let r = kinds::table::row(f.kind);
     let when = r.privileged;
-    rows::holds(when, f.x)
+    kinds::holds(when, f.x)
 }

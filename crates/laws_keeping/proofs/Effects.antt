@@ -18,7 +18,7 @@ use Rattle.transaction.specs.declared.Transaction.{Transaction}
 use Rattle.transaction.specs.declared.Write.{Write}
 use Rattle.transaction.specs.declared.Write.the-variants.{Unwritten, Bytes, Log}
 use Rattle.transaction.proofs.Laws.{commit-length}
-use Rattle.event.specs.Rows.{row, tm-spr, srr}
+use Rattle.kinds.specs.Rows.{row, tm-spr, srr}
 use Rattle.event.specs.Event.{trechkpt-kind, mtspr-kind, kind, operands-right, tm-instruction}
 use Rattle.event.specs.declared.Event.{Event}
 use Rattle.event.specs.declared.Event.the-variants.{Trechkpt, Mtspr}

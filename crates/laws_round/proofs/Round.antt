@@ -13,12 +13,12 @@ use lib.Seq.{take-at, drop-at, take-all, length-sets}
 use borrow.Author.Tests.{leb-true, ltb-false, le-ltb, eqb-true, eq-eqb, ne-eqb}
 use Rattle.base.specs.Below.{bit}
 use Rattle.base.proofs.Below.{and-left, and-right, and-intro, digit-bit}
-use Rattle.event.specs.Rows.{kind-right, row, used, spans}
+use Rattle.kinds.specs.Rows.{kind-right, row, used, spans}
 use Rattle.event.specs.Event.{fields, fields-of, event-of}
 use Rattle.event.specs.declared.Event.{Event}
 use Rattle.event.specs.declared.Event.the-variants.{Tbegin, Tend, Tabort, Tabortwc, Tabortdc, Tsr, Tcheck, Treclaim, Trechkpt, Mtspr, Mfspr, Ld, Std, Addi, Disallowed, Interrupt, Host, Rfid, Mtmsrd, Lbz, Lhz, Lwz, Stb, Sth, Stw, Tlbie}
 use Rattle.event.specs.declared.Fields.{Fields}
-use Rattle.event.specs.declared.rows.Row.{Row}
+use Rattle.kinds.specs.declared.Row.{Row}
 use Rattle.tape.specs.Tape.{record-size, first-byte, byte, two, four, fields-at, fixed-zero, bytes, unused-clear, judged, of-kind, read, number, values, write}
 use Rattle.tape.specs.declared.Read.{Read}
 use Rattle.tape.specs.declared.Read.the-variants.{Record, Refused}

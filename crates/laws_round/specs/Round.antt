@@ -8,7 +8,7 @@ use Prim.Native.Nat.{ℕ, _≤_, _<_, _^_}
 use lib.Dec.{eqb, ltb}
 use lib.ListN.{length, take, drop}
 use lib.Seq.{sets}
-use Rattle.event.specs.Rows.{kind-right, row}
+use Rattle.kinds.specs.Rows.{kind-right, row}
 use Rattle.event.specs.Event.{fields-of, event-of}
 use Rattle.event.specs.declared.Event.{Event}
 use Rattle.event.specs.declared.Event.the-variants.{Std}

@@ -29,7 +29,7 @@ use Rattle.thread.specs.declared.State.the-variants.{N, T, S}
 use Rattle.thread.specs.declared.Control.{Control}
 use Rattle.thread.specs.declared.Thread.{Thread}
 use Rattle.thread.specs.declared.Effect.{Effect}
-use Rattle.event.specs.Rows.{tm-spr}
+use Rattle.kinds.specs.Rows.{tm-spr}
 use Rattle.event.specs.Event.{trechkpt-kind, mtspr-kind, kind, tm-instruction}
 use Rattle.event.specs.declared.Event.{Event}
 use Rattle.event.specs.declared.Event.the-variants.{Trechkpt, Mtspr}

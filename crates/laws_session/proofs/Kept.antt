@@ -10,7 +10,7 @@ use lib.ListN.{length, getD, drop, replicate, length-drop}
 use lib.Seq.{getD-append-add, length-take-le}
 use borrow.Author.Tests.{eq-eqb, ne-eqb, eqb-true, eqb-false, le-leb, ltb-false}
 use Rattle.base.proofs.Below.{fork, and-intro, all-from}
-use Rattle.event.specs.Rows.{kind-right, row}
+use Rattle.kinds.specs.Rows.{kind-right, row}
 use Rattle.event.specs.Event.{kind, operands-right, event-of, tm-instruction}
 use Rattle.event.specs.declared.Event.{Event}
 use Rattle.thread.specs.declared.Control.{Control}

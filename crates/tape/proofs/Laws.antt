@@ -10,7 +10,7 @@ use lib.Seq.{sets, sets-eq}
 use borrow.Author.Tests.{le-leb, lt-leb, eq-eqb, eqb-true}
 use lib.Dec.{eqb}
 use Rattle.event.specs.Event.{event-of}
-use Rattle.event.specs.Rows.{kind-right, row}
+use Rattle.kinds.specs.Rows.{kind-right, row}
 use Rattle.event.specs.declared.Fields.{Fields}
 use Rattle.tape.specs.Tape.{record-size, first-byte, byte, record-at, fields-at, fixed-zero, unused-clear, judged, of-kind, read, number}
 use Rattle.tape.specs.declared.Read.{Read}

@@ -9,8 +9,8 @@ use lib.ListN.{getD, length}
 use borrow.Author.Tests.{eq-eqb, eqb-true, le-leb, leb-true}
 use Rattle.base.specs.Below.{all-below}
 use Rattle.base.proofs.Below.{all-at, and-intro, and-left, and-right}
-use Rattle.event.specs.Rows.{rows, kind-right, no-row, row, used, spans}
-use Rattle.event.specs.declared.rows.Row.{Row}
+use Rattle.kinds.specs.Rows.{rows, kind-right, no-row, row, used, spans}
+use Rattle.kinds.specs.declared.Row.{Row}
 use Rattle.tape.specs.Tape.{record-size, first-byte, byte, two, four, fields-at, fixed-zero, unused-clear, judged, of-kind, read, number}
 use Rattle.tape.specs.FirstBad.{read-number}
 use Rattle.tape.specs.Inner.{most, limits, table, within}

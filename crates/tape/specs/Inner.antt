@@ -5,8 +5,8 @@ use mathlib.Core.List.{List, [], _∷_, map}
 use lib.Dec.{leb}
 use lib.ListN.{getD}
 use Rattle.base.specs.Below.{all-below}
-use Rattle.event.specs.Rows.{rows, used, spans}
-use Rattle.event.specs.declared.rows.Row.{Row}
+use Rattle.kinds.specs.Rows.{rows, used, spans}
+use Rattle.kinds.specs.declared.Row.{Row}
 use Rattle.tape.specs.Tape.{record-size, byte}
 
 -- the largest value of a byte that is used, and of one that is not

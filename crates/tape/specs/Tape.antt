@@ -9,8 +9,8 @@ use lib.Seq.{sets}
 use Rattle.base.specs.Answers as answer
 use Rattle.event.specs.declared.Event.{Event}
 use Rattle.event.specs.declared.Fields.{Fields}
-use Rattle.event.specs.declared.rows.Row.{Row}
-use Rattle.event.specs.Rows.{kind-right, row, used, spans}
+use Rattle.kinds.specs.declared.Row.{Row}
+use Rattle.kinds.specs.Rows.{kind-right, row, used, spans}
 use Rattle.event.specs.Event.{event-of, fields-of}
 use Rattle.tape.specs.declared.Read.{Read}
 use Rattle.tape.specs.declared.Read.the-variants.{Record, Refused}

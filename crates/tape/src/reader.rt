@@ -10,8 +10,7 @@ use crate::Read;
 use base::answer;
 use event::Event;
 use event::Fields;
-use event::rows;
-use event::rows::Row;
+use kinds::Row;
 
 // Numbers of two and four bytes, highest first.
 pub fn two(a: u8, b: u8) -> u16
@@ -59,11 +58,11 @@ pub fn unused_clear(r: Row, f: Fields) -> bool
     let ra = r.ra;
     let rb = r.rb;
     let index = r.index;
-    (rows::used(x) | (f.x == 0))
-        & (rows::used(ra) | (f.ra == 0))
-        & (rows::used(rb) | (f.rb == 0))
+    (kinds::used(x) | (f.x == 0))
+        & (kinds::used(ra) | (f.ra == 0))
+        & (kinds::used(rb) | (f.rb == 0))
         & (f.flags <= r.flags)
-        & (rows::spans(index) | (f.index == 0))
+        & (kinds::spans(index) | (f.index == 0))
         & (r.si | (f.si == 0))
 }
 
@@ -87,7 +86,7 @@ pub fn of_kind(f: Fields, zero: bool) -> Read
 {
     let kind = f.kind;
     match kind {
-        1..=26 => judged(f, zero, event::row(kind), event::event_of(f)),
+        1..=26 => judged(f, zero, kinds::table::row(kind), event::event_of(f)),
         _ => Read::Refused(answer::NO_KIND),
     }
 }

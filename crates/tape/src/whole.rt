@@ -3,7 +3,7 @@ ghost use mathlib.Core.Path.{_≡_};
 ghost use Prim.Native.Nat.{_/_, _≤_};
 ghost use lib.Dec.{eqb};
 ghost use lib.ListN.{length};
-ghost use Rattle.event.specs.Rows.{rows, row};
+ghost use Rattle.kinds.specs.Rows.{rows, row};
 ghost use Rattle.tape.specs.Tape.{record-size};
 ghost use Rattle.tape.specs.FirstBad.{read-number, first-bad, bad-record};
 ghost use Rattle.tape.specs.Inner as inner;

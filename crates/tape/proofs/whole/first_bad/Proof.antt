@@ -8,7 +8,7 @@ use borrow.Author.Needs.{needs}
 use borrow.Author.Tests.{eqb-true, eqb-false}
 use lib.Dec.{eqb}
 use lib.ListN.{length, length-take, length-drop}
-use Rattle.event.specs.Rows.{rows}
+use Rattle.kinds.specs.Rows.{rows}
 use Rattle.base.proofs.Below.{flag-true, flag-false}
 use Rattle.tape.specs.Tape.{record-at, number}
 use Rattle.tape.specs.FirstBad.{found, read-number, first-bad}

@@ -4,7 +4,7 @@ use mathlib.Core.List.{List, []}
 use Prim.Native.Nat.{ℕ, _-_}
 use lib.ListN.{getD}
 use native.Mathlib.Omega.{arith}
-use Rattle.event.specs.Rows.{rows}
+use Rattle.kinds.specs.Rows.{rows}
 use Rattle.tape.specs.Inner.{within}
 use Rattle.tape.proofs.Limits.{table-at}
 use borrow.Author.Needs.{needs}

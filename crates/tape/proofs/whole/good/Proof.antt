@@ -5,7 +5,7 @@ use Prim.Native.Nat.{ℕ, _<_}
 use native.Mathlib.Nat.{le-of-suc-le-suc}
 use native.Mathlib.Omega.{arith}
 use lib.Dec.{eqb}
-use Rattle.event.specs.Rows.{rows}
+use Rattle.kinds.specs.Rows.{rows}
 use Rattle.tape.specs.Tape.{byte, first-byte}
 use Rattle.tape.proofs.Laws.{kind-in, kind-low, kind-high}
 use Rattle.tape.proofs.Limits.{good-in, good-out}

@@ -1,4 +1,4 @@
--- `event::rows::addressed` meets its contract.
+-- `kinds::addressed` meets its contract.
 use mathlib.Core.Path.{_≡_, sym, ap, _∙_}
 use mathlib.Core.Bool.{Bool, _&&_}
 use Prim.Native.Nat.{ℕ, _*_, _/_, _%_, _<_}
@@ -8,8 +8,8 @@ use lib.Dec.{eqb, ltb}
 use borrow.Author.Tests.{lt-ltb, le-ltb}
 use Rattle.base.specs.Limits.{doubleword-bytes}
 use borrow.Author.Needs.{needs}
-use Rattle.event.proofs.rows.addressed.Statement.{statement}
-use Rattle.event.proofs.rows.addressed.Tie as tie
+use Rattle.kinds.proofs.addressed.Statement.{statement}
+use Rattle.kinds.proofs.addressed.Tie as tie
 
 rem-result : tie.Need-rem-result
 rem-result c = search needs

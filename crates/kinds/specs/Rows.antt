@@ -6,14 +6,13 @@ use mathlib.Core.List.{List, [], _∷_}
 use lib.Dec.{eqb, leb, ltb}
 use lib.ListN.{getD}
 use Rattle.base.specs.Limits.{doubleword-bytes, gprs, cr-fields, page-size}
-use Rattle.event.specs.declared.Fields.{Fields}
-use Rattle.event.specs.declared.rows.Use.{Use}
-use Rattle.event.specs.declared.rows.Use.the-variants.{No, Gpr, To, Bf, Spr}
-use Rattle.event.specs.declared.rows.When.{When}
-use Rattle.event.specs.declared.rows.When.the-variants.{Never, Always, TmSpr, Srr}
-use Rattle.event.specs.declared.rows.Span.{Span}
-use Rattle.event.specs.declared.rows.Span.the-variants.{Without, Doubleword, Byte, Halfword, Word, Page}
-use Rattle.event.specs.declared.rows.Row.{Row}
+use Rattle.kinds.specs.declared.Use.{Use}
+use Rattle.kinds.specs.declared.Use.the-variants.{No, Gpr, To, Bf, Spr}
+use Rattle.kinds.specs.declared.When.{When}
+use Rattle.kinds.specs.declared.When.the-variants.{Never, Always, TmSpr, Srr}
+use Rattle.kinds.specs.declared.Span.{Span}
+use Rattle.kinds.specs.declared.Span.the-variants.{Without, Doubleword, Byte, Halfword, Word, Page}
+use Rattle.kinds.specs.declared.Row.{Row}
 
 abbrev pub line : (x ra rb : Use) (flags : ℕ) (index : Span) (si : Bool) (tm privileged : When) → Row
 line x ra rb flags index si tm privileged =
@@ -108,11 +107,6 @@ in-memory Byte i len = addressed 1 i len
 in-memory Halfword i len = addressed 2 i len
 in-memory Word i len = addressed 4 i len
 in-memory Page i len = ltb (page-size * i) len
-
--- number 4: each used field is in range, and what a used index names in a memory of len doublewords
-abbrev pub fields-right : Row → Fields → ℕ → Bool
-fields-right r f len =
-    in-range (r .x) (f .x) && in-range (r .ra) (f .ra) && in-range (r .rb) (f .rb) && in-memory (r .index) (f .index) len
 
 -- whether it is so with X
 abbrev pub holds : When → ℕ → Bool

@@ -1,7 +1,7 @@
--- `event::rows::in_memory` meets its contract.
+-- `kinds::in_memory` meets its contract.
 use borrow.Author.Needs.{needs}
-use Rattle.event.proofs.rows.in_memory.Statement.{statement}
-use Rattle.event.proofs.rows.in_memory.Tie as tie
+use Rattle.kinds.proofs.in_memory.Statement.{statement}
+use Rattle.kinds.proofs.in_memory.Tie as tie
 
 enum-told : tie.Need-enum-told
 enum-told c = search needs

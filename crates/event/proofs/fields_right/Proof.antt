@@ -1,7 +1,7 @@
--- `event::rows::fields_right` meets its contract.
+-- `event::fields_right` meets its contract.
 use borrow.Author.Needs.{needs}
-use Rattle.event.proofs.rows.fields_right.Statement.{statement}
-use Rattle.event.proofs.rows.fields_right.Tie as tie
+use Rattle.event.proofs.fields_right.Statement.{statement}
+use Rattle.event.proofs.fields_right.Tie as tie
 
 in-range-requires : tie.Need-in-range-requires
 in-range-requires c κs = search needs

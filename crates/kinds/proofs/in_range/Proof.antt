@@ -1,7 +1,7 @@
--- `event::rows::in_range` meets its contract.
+-- `kinds::in_range` meets its contract.
 use borrow.Author.Needs.{needs}
-use Rattle.event.proofs.rows.in_range.Statement.{statement}
-use Rattle.event.proofs.rows.in_range.Tie as tie
+use Rattle.kinds.proofs.in_range.Statement.{statement}
+use Rattle.kinds.proofs.in_range.Tie as tie
 
 enum-told : tie.Need-enum-told
 enum-told c = search needs

@@ -1,16 +1,16 @@
-// A kind's row: what it uses each field for, and what follows.
+// A kind's row: what it uses each field for, and what follows. All rows: `table`.
+pub mod table;
+
 ghost use mathlib.Core.Path.{_≡_};
 ghost use mathlib.Core.Bool.{false};
 ghost use Prim.Native.Nat.{_<_};
-ghost use Rattle.event.specs.Rows.{line, used, tm-spr, srr, in-range, spans, addressed, in-memory, fields-right, holds};
-ghost use Rattle.event.specs.declared.rows.Use.the-variants.{No};
-ghost use Rattle.event.specs.declared.rows.Span.the-variants.{Without};
-ghost use Rattle.event.specs.declared.rows.When.the-variants.{Never, Always};
-use crate::Fields;
+ghost use Rattle.kinds.specs.Rows.{line, used, tm-spr, srr, in-range, spans, addressed, in-memory, holds};
+ghost use Rattle.kinds.specs.declared.Use.the-variants.{No};
+ghost use Rattle.kinds.specs.declared.Span.the-variants.{Without};
+ghost use Rattle.kinds.specs.declared.When.the-variants.{Never, Always};
 use base::CR_FIELDS;
 use base::DOUBLEWORD_BYTES;
 use base::GPRS;
-use base::PAGE;
 
 // What a kind uses a field for.
 pub enum Use {
@@ -125,7 +125,7 @@ fn srr(v: u8) -> bool
 }
 
 // A field as its use wants it.
-fn in_range(u: Use, v: u8) -> bool
+pub fn in_range(u: Use, v: u8) -> bool
     ensures { λ r. ⌜ r ≡ in-range u v ⌝ }
 {
     match u {
@@ -160,7 +160,7 @@ fn addressed(width: u32, i: u32, len: usize) -> bool
 }
 
 // A doubleword is in a memory of len doublewords, and so are the bytes at an address, and the first line of a page.
-fn in_memory(s: Span, i: u32, len: usize) -> bool
+pub fn in_memory(s: Span, i: u32, len: usize) -> bool
     ensures { λ r. ⌜ r ≡ in-memory s i len ⌝ }
 {
     match s {
@@ -169,19 +169,8 @@ fn in_memory(s: Span, i: u32, len: usize) -> bool
         Span::Byte => addressed(1, i, len),
         Span::Halfword => addressed(2, i, len),
         Span::Word => addressed(4, i, len),
-        Span::Page => PAGE * (i as usize) < len,
+        Span::Page => base::PAGE * (i as usize) < len,
     }
-}
-
-// Each used field is in range, and what a used index names in a memory of len doublewords.
-pub fn fields_right(r: Row, f: Fields, len: usize) -> bool
-    ensures { λ b. ⌜ b ≡ fields-right r f len ⌝ }
-{
-    let x = r.x;
-    let ra = r.ra;
-    let rb = r.rb;
-    let index = r.index;
-    in_range(x, f.x) & in_range(ra, f.ra) & in_range(rb, f.rb) & in_memory(index, f.index, len)
 }
 
 // Whether it is so with X.

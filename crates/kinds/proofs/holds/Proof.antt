@@ -1,7 +1,7 @@
--- `event::rows::holds` meets its contract.
+-- `kinds::holds` meets its contract.
 use borrow.Author.Needs.{needs}
-use Rattle.event.proofs.rows.holds.Statement.{statement}
-use Rattle.event.proofs.rows.holds.Tie as tie
+use Rattle.kinds.proofs.holds.Statement.{statement}
+use Rattle.kinds.proofs.holds.Tie as tie
 
 enum-told : tie.Need-enum-told
 enum-told c = search needs
