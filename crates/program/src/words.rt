@@ -220,7 +220,7 @@ pub fn tell(input: &[u8], t: Told) {
         whole(bytes);
         return;
     }
-    let found = tape::whole::bad_record(input);
+    let found = tape_whole::bad_record(input);
     let n = found.answer;
     match n {
         answer::DONE => ran(input, t),

@@ -213,7 +213,7 @@ pub fn play(m: Machine, mem: &mut [u64], tape: &[u8], answers: &mut [u8]) -> End
     ensures { λ r. ⌜ now (mem .exit) ≡ play (reads (now (tape .entry)) 0 (length (now (tape .entry)) / record-size)) 0 m (now (mem .entry)) .memory ⌝ }
     ensures { λ r. ⌜ now (answers .exit) ≡ sets (now (answers .entry)) 0 (play (reads (now (tape .entry)) 0 (length (now (tape .entry)) / record-size)) 0 m (now (mem .entry)) .answers) ⌝ }
 {
-    let found = tape::whole::first_bad(tape);
+    let found = tape_whole::first_bad(tape);
     let good = found.index;
     let end = good * RECORD_SIZE;
     let ended = run_valid(m, mem, &tape[..end], answers);
@@ -249,7 +249,7 @@ pub fn run(m: Machine, mem: &mut [u64], tape: &[u8], answers: &mut [u8]) -> Ende
             machine: m,
         };
     }
-    let found = tape::whole::bad_record(tape);
+    let found = tape_whole::bad_record(tape);
     if found.answer != answer::DONE {
         return Ended {
             answer: found.answer,

@@ -1,6 +1,5 @@
 // The tape: records of 16 bytes, one event each (rules T1 to T7).
 pub mod reader;
-pub mod whole;
 pub mod writer;
 
 ghost use mathlib.Core.Path.{_≡_};

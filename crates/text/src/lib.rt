@@ -120,7 +120,7 @@ pub fn text(input: &[u8], out: &mut [u8]) -> usize
     if input.len() > LONGEST {
         return append(out, 0, b"long\n");
     }
-    let found = tape::whole::bad_record(input);
+    let found = tape_whole::bad_record(input);
     if found.answer != answer::DONE {
         return bad_line(out, found.index, found.answer);
     }

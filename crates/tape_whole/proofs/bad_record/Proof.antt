@@ -1,9 +1,9 @@
--- `tape::whole::bad_record` meets its contract.
+-- `tape_whole::bad_record` meets its contract.
 use borrow.Author.Tests.{eq-eqb, ne-eqb}
 use Rattle.tape.specs.FirstBad.{bad-record}
 use borrow.Author.Needs.{needs}
-use Rattle.tape.proofs.whole.bad_record.Statement.{statement}
-use Rattle.tape.proofs.whole.bad_record.Tie as tie
+use Rattle.tape_whole.proofs.bad_record.Statement.{statement}
+use Rattle.tape_whole.proofs.bad_record.Tie as tie
 
 returns : tie.Need-returns
 unfolding bad-record

@@ -11,12 +11,12 @@ use Rattle.base.specs.Below.{all-below}
 use Rattle.base.proofs.Below.{all-at, and-intro, and-left, and-right}
 use Rattle.kinds.specs.Rows.{rows, kind-right, no-row, row, used, spans}
 use Rattle.kinds.specs.declared.Row.{Row}
 use Rattle.tape.specs.Tape.{record-size, first-byte, byte, two, four, fields-at, fixed-zero, unused-clear, judged, of-kind, read, number}
 use Rattle.tape.specs.FirstBad.{read-number}
-use Rattle.tape.specs.Inner.{most, limits, table, within}
+use Rattle.tape_whole.specs.Inner.{most, limits, table, within}
 use Rattle.tape.specs.declared.Read.{Read}
 use Rattle.tape.specs.declared.Read.the-variants.{Record, Refused}
 use Rattle.tape.proofs.Laws.{of-a-kind}
 
 -- the table has the limits of each kind
 each-row : (rs : List Row) (k : ℕ) → k < length rs → getD (map limits rs) k [] ≡ limits (getD rs k no-row)

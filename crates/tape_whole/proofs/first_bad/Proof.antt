@@ -1,4 +1,4 @@
--- `tape::whole::first_bad` meets its contract: the first bad record is the first of those still to be looked at.
+-- `tape_whole::first_bad` meets its contract: the first bad record is the first of those still to be looked at.
 use mathlib.Core.Path.{_≡_, refl, sym, ap, _∙_}
 use mathlib.Core.Bool.{Bool, true, false}
 use mathlib.Core.List.{List}
@@ -10,13 +10,13 @@ use lib.Dec.{eqb}
 use lib.ListN.{length, length-take, length-drop}
 use Rattle.kinds.specs.Rows.{rows}
 use Rattle.base.proofs.Below.{flag-true, flag-false}
 use Rattle.tape.specs.Tape.{record-at, number}
 use Rattle.tape.specs.FirstBad.{found, read-number, first-bad}
-use Rattle.tape.specs.Inner.{limits, table}
+use Rattle.tape_whole.specs.Inner.{limits, table}
 use Rattle.tape.proofs.Laws.{part-is}
 use Rattle.tape.proofs.FirstBad.{bad-none, bad-here, bad-later}
-use Rattle.tape.proofs.whole.first_bad.Statement.{statement}
-use Rattle.tape.proofs.whole.first_bad.Tie as tie
+use Rattle.tape_whole.proofs.first_bad.Statement.{statement}
+use Rattle.tape_whole.proofs.first_bad.Tie as tie
 
 abbrev Inv-loop : tie.InvT-loop
 Inv-loop tape limits n k₀ k = (k ≤ n) × (first-bad read-number tape 0 n ≡ first-bad read-number tape k (n - k))

@@ -1,15 +1,15 @@
--- `tape::whole::fits` meets its contract: the table has the limits of each row.
+-- `tape_whole::fits` meets its contract: the table has the limits of each row.
 use mathlib.Core.Path.{ap, _∙_}
 use mathlib.Core.List.{List, []}
 use Prim.Native.Nat.{ℕ, _-_}
 use lib.ListN.{getD}
 use native.Mathlib.Omega.{arith}
 use Rattle.kinds.specs.Rows.{rows}
-use Rattle.tape.specs.Inner.{within}
-use Rattle.tape.proofs.Limits.{table-at}
+use Rattle.tape_whole.specs.Inner.{within}
+use Rattle.tape_whole.proofs.Limits.{table-at}
 use borrow.Author.Needs.{needs}
-use Rattle.tape.proofs.whole.fits.Statement.{statement}
-use Rattle.tape.proofs.whole.fits.Tie as tie
+use Rattle.tape_whole.proofs.fits.Statement.{statement}
+use Rattle.tape_whole.proofs.fits.Tie as tie
 
 sub-own : tie.Need-sub-own
 sub-own c = search needs

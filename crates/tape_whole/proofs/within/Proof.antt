@@ -1,4 +1,4 @@
--- `tape::whole::within` meets its contract: what passed so far, and the bytes that are left, tell what all tell.
+-- `tape_whole::within` meets its contract: what passed so far, and the bytes that are left, tell what all tell.
 use mathlib.Core.Path.{_≡_, refl, sym, ap, _∙_}
 use mathlib.Core.Bool.{Bool, true, false, _&&_, and-assoc, and-true}
 use Prim.Native.Nat.{ℕ, _-_, _≤_, _<_}
@@ -8,11 +8,11 @@ use lib.Dec.{leb}
 use lib.ListN.{getD}
 use Rattle.base.specs.Below.{all-below}
 use Rattle.base.proofs.Below.{all-step, all-none}
 use Rattle.tape.specs.Tape.{byte}
-use Rattle.tape.specs.Inner.{within}
+use Rattle.tape_whole.specs.Inner.{within}
 use borrow.Author.Needs.{needs}
-use Rattle.tape.proofs.whole.within.Statement.{statement}
-use Rattle.tape.proofs.whole.within.Tie as tie
+use Rattle.tape_whole.proofs.within.Statement.{statement}
+use Rattle.tape_whole.proofs.within.Tie as tie
 
 -- a byte is within its limit
 abbrev passes : List ℕ → List ℕ → ℕ → Bool

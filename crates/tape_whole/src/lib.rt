@@ -4,15 +4,15 @@ ghost use Prim.Native.Nat.{_/_, _≤_};
 ghost use lib.Dec.{eqb};
 ghost use lib.ListN.{length};
 ghost use Rattle.kinds.specs.Rows.{rows, row};
 ghost use Rattle.tape.specs.Tape.{record-size};
 ghost use Rattle.tape.specs.FirstBad.{read-number, first-bad, bad-record};
-ghost use Rattle.tape.specs.Inner as inner;
-ghost use Rattle.tape.specs.Inner.{table, within};
-use crate::FIRST_BYTE;
-use crate::Found;
-use crate::RECORD_SIZE;
-use crate::reader;
+ghost use Rattle.tape_whole.specs.Inner as inner;
+ghost use Rattle.tape_whole.specs.Inner.{table, within};
 use base::answer;
+use tape::FIRST_BYTE;
+use tape::Found;
+use tape::RECORD_SIZE;
+use tape::reader;
 
 const KINDS: usize = 26;
 
@@ -126,7 +126,7 @@ pub fn first_bad(tape: &[u8]) -> Found
         let end = at + RECORD_SIZE;
         if !good(&tape[at..end], &limits) {
             return Found {
-                answer: crate::number(reader::read(&tape[at..end])),
+                answer: tape::number(reader::read(&tape[at..end])),
                 index: k,
             };
         }
