@@ -38,9 +38,9 @@ pub extern "C" fn naszeptan_valid(m: RawMachine, len: usize) -> u8
     ensures { λ r. ⌜ r ≡ number m len ⌝ }
 {
     if crossing::right(m) {
-        return machine::valid::number(crossing::machine_of(m), len);
+        return validity::number(crossing::machine_of(m), len);
     }
-    if machine::valid::sized(crossing::machine_of(m), len) {
+    if validity::sized(crossing::machine_of(m), len) {
         return answer::NO_MACHINE;
     }
     answer::SIZE

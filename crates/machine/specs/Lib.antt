@@ -1,3 +1,2 @@
-pub mod Inner
 pub mod Machine
 pub mod Valid

@@ -1,8 +1,4 @@
 // The machine: one to four threads over a lent memory (rules M1 to M3).
-mod held;
-pub mod valid;
-mod zeros;
-
 ghost use mathlib.Core.Path.{_≡_};
 ghost use Rattle.machine.specs.Machine.{fresh};
 use base::CR_FIELDS;

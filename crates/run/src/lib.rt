@@ -240,7 +240,7 @@ pub fn run(m: Machine, mem: &mut [u64], tape: &[u8], answers: &mut [u8]) -> Ende
     ensures { λ r. ⌜ now (mem .exit) ≡ run m (now (mem .entry)) (now (tape .entry)) .memory ⌝ }
     ensures { λ r. ⌜ now (answers .exit) ≡ sets (now (answers .entry)) 0 (run m (now (mem .entry)) (now (tape .entry)) .answers) ⌝ }
 {
-    let number = machine::valid::number(m, mem.len());
+    let number = validity::number(m, mem.len());
     if number != 0 {
         return Ended {
             answer: number,

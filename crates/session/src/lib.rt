@@ -88,7 +88,7 @@ pub fn number(s: Session, len: usize) -> u8
     ensures { λ r. ⌜ r ≡ number s len ⌝ }
 {
     let m = s.machine;
-    let n = machine::valid::number(m, len);
+    let n = validity::number(m, len);
     if right(s) {
         return first_of(n, answer::DONE);
     }
@@ -103,7 +103,7 @@ pub fn opened(m: Machine, len: usize) -> Session
         machine: m,
         count: 0,
         held: 0,
-        answer: machine::valid::number(m, len),
+        answer: validity::number(m, len),
         bytes: [0; HELD],
     }
 }

@@ -67,7 +67,7 @@ pub fn step(m: Machine, mem: &mut [u64], thread: u8, e: Event) -> Done
     ensures { λ r. ⌜ now (mem .exit) ≡ step m (now (mem .entry)) thread e .memory ⌝ }
 {
     let len = mem.len();
-    let number = machine::valid::number(m, len);
+    let number = validity::number(m, len);
     if number != 0 {
         return Done {
             answer: number,
