@@ -35,7 +35,7 @@ use Rattle.event.specs.declared.Event.the-variants.{Tend}
 use Rattle.event.specs.Event.{operands-right}
 use Rattle.event.proofs.Laws.{ld-in, std-in, lbz-in, lhz-in, lwz-in, stb-in, sth-in, stw-in}
 use Rattle.power_common.specs.Common.{gpr, fails, dooms, passes, doing, quiet, leveled}
-use Rattle.power_begins.specs.Begins.{ended, tend}
+use Rattle.power_ends.specs.Ends.{ended, tend}
 use Rattle.power_access.specs.Access.{load, takes, joins, loads, store, stores, logs, meets-own, std-overflows, ld-overflows, tracked}
 use Rattle.power_effect.specs.Effects.{effect}
 use Rattle.machine.specs.Machine.{thread, no-thread}

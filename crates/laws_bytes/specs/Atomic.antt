@@ -19,7 +19,7 @@ use Rattle.thread.specs.declared.Thread.{Thread}
 use Rattle.event.specs.declared.Event.{Event}
 use Rattle.event.specs.declared.Event.the-variants.{Tend, Ld, Std, Lbz, Lhz, Lwz, Stb, Sth, Stw}
 use Rattle.power_common.specs.Common.{gpr}
-use Rattle.power_begins.specs.Begins.{commits}
+use Rattle.power_ends.specs.Ends.{commits}
 use Rattle.machine.specs.Machine.{thread}
 use Rattle.machine.specs.Valid.{valid}
 use Rattle.machine.specs.declared.Machine.{Machine}

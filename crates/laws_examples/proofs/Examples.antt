@@ -16,7 +16,8 @@ use Rattle.power_common.specs.Common.{fails}
 use Rattle.power_aborts.specs.Compare as compare
 use Rattle.power_aborts.specs.Aborts as aborts
 use Rattle.power_access.specs.Access as access
-use Rattle.power_begins.specs.Begins as begins
+use Rattle.power_ends.specs.Ends as ends
+use Rattle.power_suspends.specs.Suspends as suspends
 use Rattle.power_reclaims.specs.Reclaims as reclaims
 use Rattle.power_special.specs.Special as special
 use Rattle.power_plain.specs.Plain as plain
@@ -37,7 +38,7 @@ unfolding all-below any-below count-below
     lineset.place lineset.empty lineset.has lineset.with lineset.meets lineset.footprint
     transaction.empty transaction.discard transaction.lookup-in transaction.loaded transaction.crowded transaction.full transaction.stored transaction.store-at transaction.commit-in transaction.written
     recording handling felled kind operands-right tm-instruction privileged fails compare.picked compare.holds
-    effect begins.tend aborts.tabort aborts.tabort-if begins.tsuspend begins.tsr reclaims.treclaim special.get-spr special.mfspr
+    effect ends.tend aborts.tabort aborts.tabort-if suspends.tsuspend suspends.tsr reclaims.treclaim special.get-spr special.mfspr
     access.load access.logs access.meets-own access.store plain.addi plain.disallowed plain.interrupt
     fresh fresh-thread
     valid.sized valid.shaped valid.place-right valid.unused-zero valid.aligned valid.cr-small valid.fields-small valid.no-line valid.holds-nothing valid.live-rules valid.state-rules valid.indices-inside valid.line-inside valid.lines-inside valid.unlike valid.distinct valid.logs-line valid.line-logged valid.writes-logged valid.marked-right valid.marks-right valid.held-right valid.thread-valid valid.clash valid.clear-of valid.apart valid.thread-right valid.threads-right valid.valid valid.machine-number

@@ -25,7 +25,9 @@ use Rattle.event.specs.declared.Event.the-variants.{Trechkpt, Mtspr}
 use Rattle.power_common.specs.Common.{passes, cr0-from-state, put-gpr, own-recording, fails, dooms, cr0-only, leveled, abort-cause}
 use Rattle.power_access.specs.Access.{tracked, ld-overflows, std-overflows, takes, joins, load, logs, meets-own, store, tlbie}
 use Rattle.power_aborts.specs.Aborts.{tabort, tabort-if}
-use Rattle.power_begins.specs.Begins.{begins, tbegin, commits, tend, moves, tsuspend, tresume, tsr}
+use Rattle.power_begins.specs.Begins.{begins, tbegin}
+use Rattle.power_ends.specs.Ends.{commits, tend}
+use Rattle.power_suspends.specs.Suspends.{moves, tsuspend, tresume, tsr}
 use Rattle.power_reclaims.specs.Reclaims.{check-field, tcheck, treclaim, trechkpt}
 use Rattle.power_special.specs.Special.{put-failure, put-spr, mtspr}
 use Rattle.power_returns.specs.Returns.{goes, taking}

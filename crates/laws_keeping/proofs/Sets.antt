@@ -25,7 +25,9 @@ use Rattle.event.specs.declared.Event.{Event}
 use Rattle.power_common.specs.Common.{cr0-from-state, fails, dooms}
 use Rattle.power_access.specs.Access.{takes, tracked, loads, ld-overflows, std-overflows, load, logs, meets-own, store, tlbie}
 use Rattle.power_aborts.specs.Aborts.{tabort, tabort-if}
-use Rattle.power_begins.specs.Begins.{tbegin, commits, tend, tsuspend, tresume, tsr}
+use Rattle.power_begins.specs.Begins.{tbegin}
+use Rattle.power_ends.specs.Ends.{commits, tend}
+use Rattle.power_suspends.specs.Suspends.{tsuspend, tresume, tsr}
 use Rattle.power_reclaims.specs.Reclaims.{tcheck, treclaim, trechkpt}
 use Rattle.power_special.specs.Special.{mtspr}
 use Rattle.power_returns.specs.Returns.{taking}

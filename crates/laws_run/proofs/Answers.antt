@@ -19,7 +19,9 @@ use Rattle.power_common.specs.Common.{cr0-from-state, gpr, fails, dooms, abort-
 use Rattle.power_aborts.specs.Compare.{holds-in-words, holds-in-doublewords}
 use Rattle.power_access.specs.Access.{ld-overflows, std-overflows, load, logs, meets-own, store, tlbie}
 use Rattle.power_aborts.specs.Aborts.{tabort, tabort-if}
-use Rattle.power_begins.specs.Begins.{tbegin, commits, tend, tsuspend, tresume, tsr}
+use Rattle.power_begins.specs.Begins.{tbegin}
+use Rattle.power_ends.specs.Ends.{commits, tend}
+use Rattle.power_suspends.specs.Suspends.{tsuspend, tresume, tsr}
 use Rattle.power_reclaims.specs.Reclaims.{tcheck, treclaim, trechkpt}
 use Rattle.power_special.specs.Special.{mtspr}
 use Rattle.power_plain.specs.Plain.{disallowed, interrupt, host}

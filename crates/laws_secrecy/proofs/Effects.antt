@@ -36,7 +36,9 @@ use Rattle.event.specs.declared.Event.the-variants.{Trechkpt, Mtspr}
 use Rattle.power_common.specs.Common.{did, doing, quiet, passes, gpr, fails, abort-cause}
 use Rattle.power_access.specs.Access.{tracked, ld-overflows, takes, loads, load, stores, logs, store, tlbie}
 use Rattle.power_aborts.specs.Aborts.{tabort}
-use Rattle.power_begins.specs.Begins.{tbegin, commits, tend, tresume, tsr}
+use Rattle.power_begins.specs.Begins.{tbegin}
+use Rattle.power_ends.specs.Ends.{commits, tend}
+use Rattle.power_suspends.specs.Suspends.{tresume, tsr}
 use Rattle.power_reclaims.specs.Reclaims.{tcheck, treclaim}
 use Rattle.power_plain.specs.Plain.{disallowed, host}
 use Rattle.power_returns.specs.Returns.{taking}

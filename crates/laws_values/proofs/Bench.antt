@@ -16,7 +16,8 @@ use Rattle.power_common.specs.Common.{fails, dooms}
 use Rattle.power_aborts.specs.Compare as compare
 use Rattle.power_access.specs.Access.{load, logs, meets-own, store}
 use Rattle.power_aborts.specs.Aborts.{tabort, tabort-if}
-use Rattle.power_begins.specs.Begins.{tbegin, tsuspend, tsr}
+use Rattle.power_begins.specs.Begins.{tbegin}
+use Rattle.power_suspends.specs.Suspends.{tsuspend, tsr}
 use Rattle.power_plain.specs.Plain.{addi, disallowed, host}
 use Rattle.power_effect.specs.Effects.{effect}
 use Rattle.machine.specs.Machine.{fresh, fresh-thread}

@@ -33,7 +33,7 @@ use Rattle.power_common.specs.Common.{did, quiet}
 use Rattle.power_common.specs.declared.Did.{Did}
 use Rattle.power_special.specs.Special.{mtspr}
 use Rattle.power_reclaims.specs.Reclaims.{treclaim, trechkpt}
-use Rattle.power_begins.specs.Begins.{commits, tend}
+use Rattle.power_ends.specs.Ends.{commits, tend}
 use Rattle.power_access.specs.Access.{ld-overflows, std-overflows, load, logs, store, tlbie}
 use Rattle.power_effect.specs.declared.Rare.{Rare}
 use Rattle.power_effect.specs.Effects.{effect}

@@ -6,7 +6,9 @@ use Rattle.thread.specs.declared.Effect.{Effect}
 use Rattle.event.specs.declared.Event.{Event}
 use Rattle.event.specs.declared.Event.the-variants.{Tbegin, Tend, Tabort, Tabortwc, Tabortdc, Tsr, Tcheck, Treclaim, Trechkpt, Mtspr, Mfspr, Ld, Std, Addi, Disallowed, Interrupt, Host, Rfid, Mtmsrd, Lbz, Lhz, Lwz, Stb, Sth, Stw, Tlbie}
 use Rattle.power_common.specs.Common.{quiet, gpr, abort-cause}
-use Rattle.power_begins.specs.Begins.{tbegin, tend, tsr}
+use Rattle.power_begins.specs.Begins.{tbegin}
+use Rattle.power_ends.specs.Ends.{tend}
+use Rattle.power_suspends.specs.Suspends.{tsr}
 use Rattle.power_aborts.specs.Aborts.{tabort, tabortwc, tabortdc}
 use Rattle.power_reclaims.specs.Reclaims.{tcheck, treclaim, trechkpt}
 use Rattle.power_special.specs.Special.{mtspr, mfspr}

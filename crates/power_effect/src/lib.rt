@@ -184,7 +184,7 @@ fn other(
 {
     match e {
         Event::Tbegin { r } => quiet(power_begins::tbegin(gpr, cr, kgpr, kcr, words, r)),
-        Event::Tend { a } => power_begins::tend(words, &*ix, &*vl, mem, a),
+        Event::Tend { a } => power_ends::tend(words, &*ix, &*vl, mem, a),
         Event::Tabort { ra } => quiet(tabort(gpr, cr, &*kgpr, &*kcr, words, ra)),
         Event::Tabortwc { to, ra, rb } => {
             let answer = tabortwc(gpr, cr, &*kgpr, &*kcr, words, to, ra, rb);
@@ -194,7 +194,7 @@ fn other(
             let answer = tabortdc(gpr, cr, &*kgpr, &*kcr, words, to, ra, rb);
             quiet(answer)
         }
-        Event::Tsr { l } => quiet(power_begins::tsr(gpr, cr, &*kgpr, &*kcr, words, l)),
+        Event::Tsr { l } => quiet(power_suspends::tsr(gpr, cr, &*kgpr, &*kcr, words, l)),
         Event::Tcheck { bf } => quiet(power_reclaims::tcheck(cr, words, bf)),
         Event::Treclaim { ra } => {
             let rare = Rare::Treclaim { ra };

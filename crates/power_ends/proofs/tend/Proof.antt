@@ -1,8 +1,8 @@
--- `power_begins::tend` meets its contract.
+-- `power_ends::tend` meets its contract.
 use Prim.Native.Nat.{ℕ, _-_}
-use Rattle.power_begins.proofs.Laws.{deeper, closed-is}
-use Rattle.power_begins.specs.Begins.{ended, tend}
-use Rattle.power_begins.specs.Inner.{closes, closed}
+use Rattle.power_ends.proofs.Laws.{deeper, closed-is}
+use Rattle.power_ends.specs.Ends.{ended, tend}
+use Rattle.power_ends.specs.Inner.{closes, closed}
 use Rattle.power_common.specs.Common.{doing, quiet, leveled}
 use Rattle.power_common.specs.Inner as heads
 use Rattle.power_common.specs.declared.Did.{Did}
@@ -21,8 +21,8 @@ use mathlib.Core.Bool.{Bool, true, false, cond}
 use mathlib.Core.List.{List}
 use mathlib.Core.Path.{_≡_, sym, ap, _∙_}
 use native.Mathlib.Omega.{arith}
-use Rattle.power_begins.proofs.tend.Statement.{statement}
-use Rattle.power_begins.proofs.tend.Tie as tie
+use Rattle.power_ends.proofs.tend.Statement.{statement}
+use Rattle.power_ends.proofs.tend.Tie as tie
 
 abbrev land : Went → Thread → List ℕ → Landed
 land r t mem = record { answer = r .answer; thread = t; touch = r .touch; memory = mem }

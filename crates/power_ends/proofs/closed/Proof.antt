@@ -1,7 +1,7 @@
--- `power_begins::closed` meets its contract.
+-- `power_ends::closed` meets its contract.
 use borrow.Author.Needs.{needs}
-use Rattle.power_begins.proofs.closed.Statement.{statement}
-use Rattle.power_begins.proofs.closed.Tie as tie
+use Rattle.power_ends.proofs.closed.Statement.{statement}
+use Rattle.power_ends.proofs.closed.Tie as tie
 
 tl-requires : tie.Need-tl-requires
 tl-requires c κs = search needs

@@ -1,7 +1,7 @@
--- `power_begins::moved` meets its contract.
+-- `power_suspends::moved` meets its contract.
 use borrow.Author.Needs.{needs}
-use Rattle.power_begins.proofs.moved.Statement.{statement}
-use Rattle.power_begins.proofs.moved.Tie as tie
+use Rattle.power_suspends.proofs.moved.Statement.{statement}
+use Rattle.power_suspends.proofs.moved.Tie as tie
 
 in-state-requires : tie.Need-in-state-requires
 in-state-requires c κs = search needs

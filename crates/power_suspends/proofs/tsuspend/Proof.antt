@@ -1,8 +1,8 @@
--- `power_begins::tsuspend` meets its contract.
+-- `power_suspends::tsuspend` meets its contract.
 use Prim.Native.Nat.{ℕ}
 use Rattle.base.specs.Answers as answer
-use Rattle.power_begins.specs.Begins.{tsuspend}
-use Rattle.power_begins.specs.Inner.{moved}
+use Rattle.power_suspends.specs.Suspends.{tsuspend}
+use Rattle.power_suspends.specs.Inner.{moved}
 use Rattle.power_common.specs.Common.{did}
 use Rattle.power_common.specs.Inner as heads
 use Rattle.rows.specs.Rows.{thread-with, standing}
@@ -11,8 +11,8 @@ use Rattle.thread.specs.declared.State.{State}
 use borrow.Author.Needs.{needs}
 use mathlib.Core.List.{List}
 use mathlib.Core.Path.{_≡_, sym, ap, _∙_}
-use Rattle.power_begins.proofs.tsuspend.Statement.{statement}
-use Rattle.power_begins.proofs.tsuspend.Tie as tie
+use Rattle.power_suspends.proofs.tsuspend.Statement.{statement}
+use Rattle.power_suspends.proofs.tsuspend.Tie as tie
 
 -- what is done by the state that the head was read in
 by-state : (c : tie.After-read-head) (s : State) → c .read-head .result .control .msr .state ≡ s → (gpr cr kgpr kcr ix vl : List ℕ) → let t = standing gpr cr kgpr kcr (c .before .before .args .words .now) ix vl in tsuspend (t .control .msr .state) t ≡ tsuspend s t

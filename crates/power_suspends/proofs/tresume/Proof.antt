@@ -1,8 +1,8 @@
--- `power_begins::tresume` meets its contract.
+-- `power_suspends::tresume` meets its contract.
 use Prim.Native.Nat.{ℕ}
 use Rattle.base.specs.Answers as answer
-use Rattle.power_begins.specs.Begins.{moves, tresume}
-use Rattle.power_begins.specs.Inner.{moved}
+use Rattle.power_suspends.specs.Suspends.{moves, tresume}
+use Rattle.power_suspends.specs.Inner.{moved}
 use Rattle.power_common.specs.Common.{did}
 use Rattle.power_common.specs.Inner as heads
 use Rattle.rows.specs.Rows.{thread-with, standing}
@@ -14,8 +14,8 @@ use borrow.Author.Needs.{needs}
 use mathlib.Core.Bool.{Bool, true, false, cond}
 use mathlib.Core.List.{List}
 use mathlib.Core.Path.{_≡_, sym, ap, _∙_}
-use Rattle.power_begins.proofs.tresume.Statement.{statement}
-use Rattle.power_begins.proofs.tresume.Tie as tie
+use Rattle.power_suspends.proofs.tresume.Statement.{statement}
+use Rattle.power_suspends.proofs.tresume.Tie as tie
 
 -- the thread at the start, whatever its log
 abbrev thread : (c : tie.Start) → List ℕ → List ℕ → Thread

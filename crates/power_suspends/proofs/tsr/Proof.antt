@@ -1,14 +1,14 @@
--- `power_begins::tsr` meets its contract.
+-- `power_suspends::tsr` meets its contract.
 use Prim.Native.Nat.{ℕ}
-use Rattle.power_begins.specs.Begins.{tsuspend, tresume, tsr}
+use Rattle.power_suspends.specs.Suspends.{tsuspend, tresume, tsr}
 use Rattle.rows.specs.Rows.{standing}
 use Rattle.thread.specs.declared.Thread.{Thread}
 use borrow.Author.Needs.{needs}
 use mathlib.Core.Bool.{Bool, cond}
 use mathlib.Core.List.{List}
 use mathlib.Core.Path.{_≡_, sym, ap, _∙_}
-use Rattle.power_begins.proofs.tsr.Statement.{statement}
-use Rattle.power_begins.proofs.tsr.Tie as tie
+use Rattle.power_suspends.proofs.tsr.Statement.{statement}
+use Rattle.power_suspends.proofs.tsr.Tie as tie
 
 -- the thread at the start, whatever its log
 abbrev thread : (c : tie.Start) → List ℕ → List ℕ → Thread

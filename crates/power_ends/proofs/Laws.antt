@@ -11,8 +11,8 @@ use Rattle.rows.specs.Rows.{thread-with}
 use Rattle.rows.specs.declared.Head.{Head}
 use Rattle.rows.proofs.Laws.{log-none}
 use Rattle.power_common.specs.Common.{did}
-use Rattle.power_begins.specs.Begins.{ended}
-use Rattle.power_begins.specs.Inner.{closed}
+use Rattle.power_ends.specs.Ends.{ended}
+use Rattle.power_ends.specs.Inner.{closed}
 
 -- where a tend. closes nothing, the level is above 1
 pub deeper : (a : Bool) (n : ℕ) → (a || leb n 1) ≡ false → 1 < n

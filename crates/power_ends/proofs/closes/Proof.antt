@@ -1,7 +1,7 @@
--- `power_begins::closes` meets its contract.
+-- `power_ends::closes` meets its contract.
 use borrow.Author.Needs.{needs}
-use Rattle.power_begins.proofs.closes.Statement.{statement}
-use Rattle.power_begins.proofs.closes.Tie as tie
+use Rattle.power_ends.proofs.closes.Statement.{statement}
+use Rattle.power_ends.proofs.closes.Tie as tie
 
 returns : tie.Need-returns
 returns c = search needs

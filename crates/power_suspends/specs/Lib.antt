@@ -1,0 +1,2 @@
+pub mod Suspends
+pub mod Inner
