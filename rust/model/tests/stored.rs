@@ -198,42 +198,38 @@ fn hold_vectors(name: &str) -> usize {
 
 #[test]
 fn vectors_agree() {
-    assert!(hold_vectors("test_vectors") > 300);
-    assert!(hold_vectors("test_vectors_more") > 250);
-    assert!(hold_vectors("test_vectors_returns") > 200);
-    assert!(hold_vectors("test_vectors_pages") > 200);
-    assert!(hold_vectors("test_vectors_bytes") > 250);
+    assert!(hold_vectors("test_vectors") > 1300);
+}
+
+/// What the program writes for a tape, where it is stored: the program's own, and those beside the tapes.
+fn stored_texts() -> Vec<(PathBuf, PathBuf)> {
+    let own = crates().join("naszeptan");
+    let mut stored = vec![(own.join("stdin"), own.join("stdout"))];
+    for entry in fs::read_dir(crates().join("../tapes")).expect("the tapes") {
+        let path = entry.expect("a file").path();
+        if path.extension().is_some_and(|e| e == "stdout") {
+            stored.push((path.with_extension("tape"), path));
+        }
+    }
+    stored
 }
 
 #[test]
 fn tapes_agree() {
-    let mut tapes = 0;
-    for entry in fs::read_dir(crates()).expect("the crates") {
-        let folder = entry.expect("a crate").path();
-        let name = folder
-            .file_name()
-            .and_then(|n| n.to_str())
-            .unwrap_or_default()
-            .to_string();
-        if name != "naszeptan" && !name.starts_with("test_tape_") {
-            continue;
-        }
-        let given = fs::read(folder.join("stdin")).unwrap_or_default();
-        let stored = fs::read_to_string(folder.join("stdout")).expect("the program's text");
-        assert_eq!(program(&given), stored, "{name}");
-        tapes += 1;
+    let stored = stored_texts();
+    assert_eq!(stored.len(), 4);
+    for (tape, text) in stored {
+        let given = fs::read(&tape).expect("the tape");
+        let written = fs::read_to_string(&text).expect("the program's text");
+        assert_eq!(program(&given), written, "{}", tape.display());
     }
-    assert_eq!(tapes, 4);
 }
 
 #[test]
-fn tapes_for_the_reader_are_those_of_the_tests() {
-    let tapes = crates().join("../tapes");
-    for (tape, name) in [("pair", "test_tape_pair"), ("every_kind", "naszeptan")] {
-        let shown = fs::read(tapes.join(format!("{tape}.tape"))).expect("the tape");
-        let tested = fs::read(crates().join(name).join("stdin")).unwrap_or_default();
-        assert_eq!(shown, tested, "{tape}");
-    }
+fn the_tape_of_every_kind_is_that_of_the_program() {
+    let shown = fs::read(crates().join("../tapes/every_kind.tape")).expect("the tape");
+    let tested = fs::read(crates().join("naszeptan/stdin")).expect("the program's tape");
+    assert_eq!(shown, tested);
 }
 
 /// What a tape's text says that the program writes; ".." stands for lines left out.

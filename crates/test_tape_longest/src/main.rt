@@ -1,4 +1,0 @@
-// The program on tapes/longest.tape.
-fn main() {
-    program::program();
-}

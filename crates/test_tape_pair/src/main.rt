@@ -1,4 +1,0 @@
-// The program on tapes/pair.tape.
-fn main() {
-    program::program();
-}

@@ -1,4 +1,0 @@
-// The program on tapes/too_long.tape.
-fn main() {
-    program::program();
-}
