@@ -22,7 +22,7 @@ use Rattle.thread.specs.Thread.{is-live, felled}
 use Rattle.thread.specs.declared.State.{State}
 use Rattle.thread.specs.declared.Thread.{Thread}
 use Rattle.machine.specs.Machine.{thread, no-thread}
-use Rattle.conflict.specs.Conflict.{hits, conflict-cause, struck, strike, others}
+use Rattle.step_rules.specs.Conflict.{hits, conflict-cause, struck, strike, others}
 use Rattle.conflict.specs.Inner.{Stands, others-from}
 
 -- a line, loaded or stored, and a page have masks that stand for them

@@ -14,7 +14,7 @@ use Rattle.transaction.specs.declared.Touch.the-variants.{Untouched, Load, Stor
 use Rattle.thread.specs.declared.State.{State}
 use Rattle.thread.specs.declared.Thread.{Thread}
 use Rattle.rows.specs.declared.Head.{Head}
-use Rattle.conflict.specs.Conflict.{hits, conflict-cause, strike}
+use Rattle.step_rules.specs.Conflict.{hits, conflict-cause, strike}
 
 -- a mask for word k of the sets has a line of the write set, or, where read sets count, of the read set
 abbrev pub masked : (reads writes : LineSet) (stores : Bool) (k mask : ℕ) → Bool

@@ -12,7 +12,7 @@ ghost use Rattle.transaction.specs.Inner.{Lined};
 ghost use Rattle.transaction.specs.declared.Touch.{Touch};
 ghost use Rattle.machine.specs.Machine.{thread};
 ghost use Rattle.rows.specs.Rows.{head-of, held, standing, rows, threads-of};
-ghost use Rattle.conflict.specs.Conflict.{hits, conflict-cause, struck, strike};
+ghost use Rattle.step_rules.specs.Conflict.{hits, conflict-cause, struck, strike};
 ghost use Rattle.conflict.specs.Inner.{hit, Stands, others-from};
 use base::CR_FIELDS;
 use base::GPRS;

@@ -7,8 +7,8 @@ use lib.Dec.{eqb}
 use lib.ListN.{length}
 use Rattle.machine.specs.Valid.{machine-number}
 use Rattle.machine.specs.declared.Machine.{Machine}
-use Rattle.refusal.specs.Refusal.{refusal}
-use Rattle.step.specs.Step.{Outcome, outcome, step}
+use Rattle.step_rules.specs.Refusal.{refusal}
+use Rattle.step_rules.specs.Step.{Outcome, outcome, step}
 use Rattle.event.specs.declared.Event.{Event}
 use Rattle.event.specs.declared.Fields.{Fields}
 use Rattle.tape.specs.Tape.{bytes, of-kind, read, number}

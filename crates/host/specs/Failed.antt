@@ -9,7 +9,7 @@ use Rattle.machine.specs.Machine.{thread}
 use Rattle.machine.specs.declared.Machine.{Machine}
 use Rattle.event.specs.Event.{tend-kind}
 use Rattle.event.specs.declared.Fields.{Fields}
-use Rattle.step.specs.declared.Done.{Done}
+use Rattle.step_rules.specs.declared.Done.{Done}
 
 -- thread v has a live transaction
 abbrev pub live : Machine → ℕ → Bool

@@ -6,7 +6,7 @@ use lib.ListN.{length}
 use Rattle.base.specs.Answers as answer
 use Rattle.machine.specs.Valid.{sized, machine-number, first-of}
 use Rattle.machine.specs.declared.Machine.{Machine}
-use Rattle.step.specs.Step as events
+use Rattle.step_rules.specs.Step as events
 use Rattle.event.specs.Event.{fields, fields-of}
 use Rattle.event.specs.declared.Fields.{Fields}
 use Rattle.tape.specs.Tape as tape

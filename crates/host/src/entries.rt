@@ -14,7 +14,7 @@ use base::answer;
 use crossing::RawMachine;
 use event::Fields;
 use machine::Machine;
-use step::Done;
+use step_rules::Done;
 use tape::Read;
 
 // The version of the rules.

@@ -9,7 +9,7 @@ use base::answer;
 use event::Fields;
 use event::TEND;
 use machine::Machine;
-use step::Done;
+use step_rules::Done;
 use thread::Control;
 use thread::State;
 

@@ -34,19 +34,19 @@ use Rattle.event.specs.declared.Event.{Event}
 use Rattle.event.specs.declared.Event.the-variants.{Tend}
 use Rattle.event.specs.Event.{operands-right}
 use Rattle.event.proofs.Laws.{ld-in, std-in, lbz-in, lhz-in, lwz-in, stb-in, sth-in, stw-in}
-use Rattle.power_common.specs.Common.{gpr, fails, dooms, passes, doing, quiet, leveled}
-use Rattle.power_ends.specs.Ends.{ended, tend}
-use Rattle.power_access.specs.Access.{load, takes, joins, loads, store, stores, logs, meets-own, std-overflows, ld-overflows, tracked}
-use Rattle.power_effect.specs.Effects.{effect}
+use Rattle.power_rules.specs.Common.{gpr, fails, dooms, passes, doing, quiet, leveled}
+use Rattle.power_rules.specs.Ends.{ended, tend}
+use Rattle.power_rules.specs.Access.{load, takes, joins, loads, store, stores, logs, meets-own, std-overflows, ld-overflows, tracked}
+use Rattle.step_rules.specs.Effects.{effect}
 use Rattle.machine.specs.Machine.{thread, no-thread}
 use Rattle.machine.specs.Valid.{unlike, distinct, logs-line, line-logged, writes-logged, thread-valid, valid}
 use Rattle.machine.specs.declared.Machine.{Machine}
 use Rattle.machine.proofs.Validity.{valid-thread, valid-count, valid-memory-sized}
-use Rattle.refusal.specs.Refusal.{in-t, refusal}
-use Rattle.refusal.proofs.Laws.{passed-thread, passed-operands, refusal-valid}
-use Rattle.conflict.specs.Conflict.{others}
-use Rattle.step.specs.Step.{Outcome, perform, step}
-use Rattle.step.proofs.Laws.{step-passed, step-refused}
+use Rattle.step_rules.specs.Refusal.{in-t, refusal}
+use Rattle.step_rules.proofs.Refusals.{passed-thread, passed-operands, refusal-valid}
+use Rattle.step_rules.specs.Conflict.{others}
+use Rattle.step_rules.specs.Step.{Outcome, perform, step}
+use Rattle.step_rules.proofs.Steps.{step-passed, step-refused}
 use Rattle.laws_keeping.proofs.Held.{empty-touches, held-parts, held-count}
 use Rattle.laws_keeping.proofs.Fails.{Holds, right, live-unfailed-s, held-nothing-n, held-nothing-s, failure-empties}
 use Rattle.laws_keeping.proofs.Others.{others-length, others-met}

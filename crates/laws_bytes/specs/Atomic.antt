@@ -18,14 +18,14 @@ use Rattle.thread.specs.declared.State.the-variants.{T}
 use Rattle.thread.specs.declared.Thread.{Thread}
 use Rattle.event.specs.declared.Event.{Event}
 use Rattle.event.specs.declared.Event.the-variants.{Tend, Ld, Std, Lbz, Lhz, Lwz, Stb, Sth, Stw}
-use Rattle.power_common.specs.Common.{gpr}
-use Rattle.power_ends.specs.Ends.{commits}
+use Rattle.power_rules.specs.Common.{gpr}
+use Rattle.power_rules.specs.Ends.{commits}
 use Rattle.machine.specs.Machine.{thread}
 use Rattle.machine.specs.Valid.{valid}
 use Rattle.machine.specs.declared.Machine.{Machine}
-use Rattle.refusal.specs.Refusal.{in-t, refusal}
-use Rattle.step.specs.Step.{Outcome, step}
-use Rattle.step.specs.Feed.{from, after}
+use Rattle.step_rules.specs.Refusal.{in-t, refusal}
+use Rattle.step_rules.specs.Step.{Outcome, step}
+use Rattle.step_rules.specs.Feed.{from, after}
 use Rattle.laws_bytes.specs.Bytes.{among}
 
 -- ---- the accesses

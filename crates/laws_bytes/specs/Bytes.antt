@@ -8,7 +8,7 @@ use lib.Dec.{leb, ltb}
 use Rattle.doubleword.specs.Doubleword.{bytes, all-marks, byte, merged, doubleword-of, lowest, part, marks-of, placed}
 use Rattle.thread.specs.declared.State.{State}
 use Rattle.thread.specs.declared.Thread.{Thread}
-use Rattle.power_access.specs.Access.{ld, narrow-load, std, narrow-store}
+use Rattle.power_rules.specs.Access.{ld, narrow-load, std, narrow-store}
 
 -- n is one of the u numbers from k on
 abbrev pub among : ℕ → ℕ → ℕ → Bool

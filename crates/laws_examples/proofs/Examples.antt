@@ -12,21 +12,21 @@ use Rattle.doubleword.specs.Doubleword as doubleword
 use Rattle.transaction.specs.Transaction as transaction
 use Rattle.thread.specs.Thread.{recording, handling, felled}
 use Rattle.event.specs.Event.{kind, operands-right, tm-instruction, privileged}
-use Rattle.power_common.specs.Common.{fails}
-use Rattle.power_aborts.specs.Compare as compare
-use Rattle.power_aborts.specs.Aborts as aborts
-use Rattle.power_access.specs.Access as access
-use Rattle.power_ends.specs.Ends as ends
-use Rattle.power_suspends.specs.Suspends as suspends
-use Rattle.power_reclaims.specs.Reclaims as reclaims
-use Rattle.power_special.specs.Special as special
-use Rattle.power_plain.specs.Plain as plain
-use Rattle.power_effect.specs.Effects.{effect}
+use Rattle.power_rules.specs.Common.{fails}
+use Rattle.power_rules.specs.Compare as compare
+use Rattle.power_rules.specs.Aborts as aborts
+use Rattle.power_rules.specs.Access as access
+use Rattle.power_rules.specs.Ends as ends
+use Rattle.power_rules.specs.Suspends as suspends
+use Rattle.power_rules.specs.Reclaims as reclaims
+use Rattle.power_rules.specs.Special as special
+use Rattle.power_rules.specs.Plain as plain
+use Rattle.step_rules.specs.Effects.{effect}
 use Rattle.machine.specs.Machine.{fresh, fresh-thread}
 use Rattle.machine.specs.Valid as valid
-use Rattle.refusal.specs.Refusal.{bad-thing, turned-down, refused-there, refused-later, refusal}
-use Rattle.conflict.specs.Conflict.{hits, struck, strike, others}
-use Rattle.step.specs.Step.{perform, step}
+use Rattle.step_rules.specs.Refusal.{bad-thing, turned-down, refused-there, refused-later, refusal}
+use Rattle.step_rules.specs.Conflict.{hits, struck, strike, others}
+use Rattle.step_rules.specs.Step.{perform, step}
 use Rattle.laws_secrecy.specs.Secrecy.{Alike, tells, Stepping}
 use Rattle.laws_secrecy.specs.Corollaries.{seen}
 use Rattle.laws_examples.specs.Examples.{Example, small-memory, machine, start, ToldApart}

@@ -1,7 +1,7 @@
 -- Each thing that the condition excludes tells, by computation: each case, and the table.
 use mathlib.Core.Path.{refl}
 use mathlib.Core.Bool.{true, false}
-use Rattle.step.specs.Step.{step}
+use Rattle.step_rules.specs.Step.{step}
 use Rattle.laws_examples.specs.Needed.{example, Needed, commit, commit-all, suspend, interrupt, abort-words, abort-doublewords, abort-coded, reclaim-coded, AllNeeded}
 use Rattle.laws_examples.proofs.Examples.{computed, level-1, told-apart}
 

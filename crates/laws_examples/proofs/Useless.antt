@@ -10,9 +10,9 @@ use Rattle.event.specs.declared.Event.{Event}
 use Rattle.event.specs.declared.Event.the-variants.{Addi}
 use Rattle.machine.specs.Machine.{thread, fresh}
 use Rattle.machine.specs.Valid.{valid}
-use Rattle.refusal.specs.Refusal.{in-t}
-use Rattle.step.specs.Step.{Outcome, outcome, step}
-use Rattle.step.specs.Feed.{Fed, from}
+use Rattle.step_rules.specs.Refusal.{in-t}
+use Rattle.step_rules.specs.Step.{Outcome, outcome, step}
+use Rattle.step_rules.specs.Feed.{Fed, from}
 use Rattle.machine.specs.declared.Machine.{Machine}
 use Rattle.laws_secrecy.specs.Secrecy.{Alike, allowed, Until, Agrees, SecretOf}
 use Rattle.laws_examples.specs.Examples.{small-memory}

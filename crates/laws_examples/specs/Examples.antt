@@ -12,8 +12,8 @@ use Rattle.thread.specs.declared.State.the-variants.{T}
 use Rattle.thread.specs.declared.Thread.{Thread}
 use Rattle.machine.specs.Machine.{blank-registers, fresh-thread}
 use Rattle.machine.specs.Valid.{valid}
-use Rattle.step.specs.Step.{Outcome, outcome}
-use Rattle.step.specs.Feed.{Fed}
+use Rattle.step_rules.specs.Step.{Outcome, outcome}
+use Rattle.step_rules.specs.Feed.{Fed}
 use Rattle.machine.specs.declared.Machine.{Machine}
 use Rattle.laws_secrecy.specs.Secrecy.{Alike, Stepping}
 use Rattle.laws_secrecy.specs.Corollaries.{seen}

@@ -18,13 +18,13 @@ use Rattle.thread.specs.declared.Effect.{Effect}
 use Rattle.event.specs.Event.{kind}
 use Rattle.event.specs.declared.Event.{Event}
 use Rattle.event.specs.declared.Event.the-variants.{Tend, Tabort, Ld, Std, Disallowed, Stb}
-use Rattle.power_common.specs.Common.{quiet, passes, gpr, put-gpr}
-use Rattle.power_access.specs.Access.{logs, store}
-use Rattle.power_effect.specs.Effects.{effect}
+use Rattle.power_rules.specs.Common.{quiet, passes, gpr, put-gpr}
+use Rattle.power_rules.specs.Access.{logs, store}
+use Rattle.step_rules.specs.Effects.{effect}
 use Rattle.machine.specs.Machine.{thread, with-threads, fresh-thread}
-use Rattle.refusal.specs.Refusal.{in-t, refusal}
-use Rattle.step.specs.Step.{outcome, applied, perform}
-use Rattle.step.specs.Feed.{Fed, from}
+use Rattle.step_rules.specs.Refusal.{in-t, refusal}
+use Rattle.step_rules.specs.Step.{outcome, applied, perform}
+use Rattle.step_rules.specs.Feed.{Fed, from}
 use Rattle.laws_secrecy.specs.Secrecy.{Stepping, Until, SecretOf}
 use Rattle.laws_examples.specs.Examples.{open-thread, Example, start, ToldApart, Each}
 

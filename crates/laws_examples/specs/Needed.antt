@@ -6,8 +6,8 @@ use Prim.Native.Nat.{ℕ}
 use Rattle.event.specs.declared.Event.{Event}
 use Rattle.event.specs.declared.Event.the-variants.{Tend, Tabort, Tabortwc, Tabortdc, Tsr, Treclaim, Mfspr, Std, Interrupt}
 use Rattle.machine.specs.Machine.{fresh-thread}
-use Rattle.step.specs.Step.{step}
-use Rattle.step.specs.Feed.{after, from}
+use Rattle.step_rules.specs.Step.{step}
+use Rattle.step_rules.specs.Feed.{after, from}
 use Rattle.laws_secrecy.specs.Secrecy.{open-at, allowed}
 use Rattle.laws_examples.specs.Examples.{Example, start, ToldApart, Each}
 

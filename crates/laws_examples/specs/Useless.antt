@@ -5,7 +5,7 @@ use Prim.Native.Nat.{ℕ}
 use Rattle.event.specs.declared.Event.{Event}
 use Rattle.event.specs.declared.Event.the-variants.{Addi}
 use Rattle.machine.specs.Machine.{fresh}
-use Rattle.step.specs.Step.{outcome, step}
+use Rattle.step_rules.specs.Step.{outcome, step}
 use Rattle.machine.specs.declared.Machine.{Machine}
 use Rattle.laws_secrecy.specs.Secrecy.{Stepping, SecretOf}
 use Rattle.laws_examples.specs.Examples.{small-memory, Each}

@@ -13,8 +13,8 @@ use Rattle.event.specs.declared.Fields.{Fields}
 use Rattle.machine.specs.Valid.{sized}
 use Rattle.machine.specs.declared.Machine.{Machine}
 use Rattle.rows.proofs.Laws.{one-of-four}
-use Rattle.step.specs.Step as events
-use Rattle.step.specs.declared.Done.{Done}
+use Rattle.step_rules.specs.Step as events
+use Rattle.step_rules.specs.declared.Done.{Done}
 use Rattle.tape.specs.Tape as tape
 use Rattle.tape.specs.declared.Read.{Read}
 use Rattle.tape.specs.declared.Read.the-variants.{Record, Refused}

@@ -11,7 +11,7 @@ use Rattle.event.specs.declared.Event.{Event}
 use Rattle.event.specs.declared.Fields.{Fields}
 use Rattle.machine.specs.Valid.{sized}
 use Rattle.machine.specs.declared.Machine.{Machine}
-use Rattle.step.specs.declared.Done.{Done}
+use Rattle.step_rules.specs.declared.Done.{Done}
 use Rattle.tape.specs.Tape.{record-size}
 use Rattle.tape.specs.declared.Read.the-variants.{Record}
 use Rattle.laws_round.specs.Round.{FieldsFit, Bytes}

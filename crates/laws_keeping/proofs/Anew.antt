@@ -11,9 +11,9 @@ use Rattle.base.specs.Limits.{most-footprint, most-levels}
 use Rattle.base.proofs.Below.{fork, all-at, all-from}
 use Rattle.lines.specs.Lines as lineset
 use Rattle.transaction.specs.declared.Transaction.{Transaction}
-use Rattle.power_common.specs.Common.{next, advance, ts-field, cr0-from-state, put-gpr}
-use Rattle.power_reclaims.specs.Reclaims.{put-cr}
-use Rattle.power_effect.proofs.Cases.{with-gprs}
+use Rattle.power_rules.specs.Common.{next, advance, ts-field, cr0-from-state, put-gpr}
+use Rattle.power_rules.specs.Reclaims.{put-cr}
+use Rattle.step_rules.proofs.Cases.{with-gprs}
 use Rattle.thread.specs.Texasr.{tl, nested}
 use Rattle.thread.specs.Thread.{with-live, with-cr0, with-control, with-transaction, take-checkpoint}
 use Rattle.thread.specs.declared.Registers.{Registers}

@@ -22,19 +22,19 @@ use Rattle.kinds.specs.Rows.{row, tm-spr, srr}
 use Rattle.event.specs.Event.{trechkpt-kind, mtspr-kind, kind, operands-right, tm-instruction}
 use Rattle.event.specs.declared.Event.{Event}
 use Rattle.event.specs.declared.Event.the-variants.{Trechkpt, Mtspr}
-use Rattle.power_common.specs.Common.{passes, cr0-from-state, put-gpr, own-recording, fails, dooms, cr0-only, leveled, abort-cause}
-use Rattle.power_access.specs.Access.{tracked, ld-overflows, std-overflows, takes, joins, load, logs, meets-own, store, tlbie}
-use Rattle.power_aborts.specs.Aborts.{tabort, tabort-if}
-use Rattle.power_begins.specs.Begins.{begins, tbegin}
-use Rattle.power_ends.specs.Ends.{commits, tend}
-use Rattle.power_suspends.specs.Suspends.{moves, tsuspend, tresume, tsr}
-use Rattle.power_reclaims.specs.Reclaims.{check-field, tcheck, treclaim, trechkpt}
-use Rattle.power_special.specs.Special.{put-failure, put-spr, mtspr}
-use Rattle.power_returns.specs.Returns.{goes, taking}
-use Rattle.power_plain.specs.Plain.{disallowed, interrupted, interrupt, host}
-use Rattle.power_effect.specs.Effects.{effect}
-use Rattle.power_effect.proofs.Cases.{Works, effect-by}
-use Rattle.power_common.specs.declared.Did.{Did}
+use Rattle.power_rules.specs.Common.{passes, cr0-from-state, put-gpr, own-recording, fails, dooms, cr0-only, leveled, abort-cause}
+use Rattle.power_rules.specs.Access.{tracked, ld-overflows, std-overflows, takes, joins, load, logs, meets-own, store, tlbie}
+use Rattle.power_rules.specs.Aborts.{tabort, tabort-if}
+use Rattle.power_rules.specs.Begins.{begins, tbegin}
+use Rattle.power_rules.specs.Ends.{commits, tend}
+use Rattle.power_rules.specs.Suspends.{moves, tsuspend, tresume, tsr}
+use Rattle.power_rules.specs.Reclaims.{check-field, tcheck, treclaim, trechkpt}
+use Rattle.power_rules.specs.Special.{put-failure, put-spr, mtspr}
+use Rattle.power_rules.specs.Returns.{goes, taking}
+use Rattle.power_rules.specs.Plain.{disallowed, interrupted, interrupt, host}
+use Rattle.step_rules.specs.Effects.{effect}
+use Rattle.step_rules.proofs.Cases.{Works, effect-by}
+use Rattle.power_rules.specs.declared.Did.{Did}
 use Rattle.thread.specs.Texasr.{tl, begun}
 use Rattle.thread.specs.Thread.{with-control, with-failure, with-saved, failed, recording}
 use Rattle.thread.specs.Turns.{table}
@@ -47,7 +47,7 @@ use Rattle.thread.specs.declared.Thread.{Thread}
 use Rattle.thread.specs.declared.Effect.{Effect}
 use Rattle.thread.proofs.Laws.{begun-fs, begun-tl}
 use Rattle.machine.specs.Valid.{memory-sized, thread-valid}
-use Rattle.refusal.specs.Refusal.{host-in-t, off, forbidden, bad-thing, turned-down, refused-there}
+use Rattle.step_rules.specs.Refusal.{host-in-t, off, forbidden, bad-thing, turned-down, refused-there}
 use Rattle.machine.proofs.Validity.{memory-most}
 use Rattle.laws_keeping.proofs.Held.{join-shaped, store-shaped, join-held, store-held, join-footprint, store-footprint}
 use Rattle.laws_keeping.proofs.Fails.{Filed, Addressed, Live, Rules, Right, right, valid, doomed-empty, undoomed-live, empty-holds, handled, failure-t, failure-s}

@@ -17,15 +17,15 @@ use Rattle.transaction.specs.Transaction as transaction
 use Rattle.thread.specs.declared.Thread.{Thread}
 use Rattle.thread.specs.declared.Effect.{Effect}
 use Rattle.event.specs.declared.Event.{Event}
-use Rattle.power_effect.specs.Effects.{effect}
-use Rattle.conflict.specs.Conflict.{others}
+use Rattle.step_rules.specs.Effects.{effect}
+use Rattle.step_rules.specs.Conflict.{others}
 use Rattle.machine.specs.Machine.{thread, no-thread, with-threads}
 use Rattle.machine.specs.Valid.{sized, thread-valid, valid}
-use Rattle.refusal.specs.Refusal.{refused-later, refusal}
-use Rattle.step.specs.Step.{Outcome, perform, step}
+use Rattle.step_rules.specs.Refusal.{refused-later, refusal}
+use Rattle.step_rules.specs.Step.{Outcome, perform, step}
 use Rattle.machine.specs.declared.Machine.{Machine}
 use Rattle.machine.proofs.Validity.{valid-memory-sized, valid-count, valid-thread}
-use Rattle.refusal.proofs.Laws.{passed-thread, passed-operands, passed-there, refusal-valid}
+use Rattle.step_rules.proofs.Refusals.{passed-thread, passed-operands, passed-there, refusal-valid}
 use Rattle.laws_keeping.proofs.Effects.{written-length, effect-keeps}
 use Rattle.laws_keeping.proofs.Sets.{Stores, Loads, writes-touch, effect-writes, effect-touches}
 use Rattle.laws_keeping.proofs.Others.{Fits, Met, others-length, others-met}

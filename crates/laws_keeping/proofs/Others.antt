@@ -16,7 +16,7 @@ use Rattle.transaction.specs.declared.Transaction.{Transaction}
 use Rattle.thread.specs.declared.Thread.{Thread}
 use Rattle.machine.specs.Machine.{thread}
 use Rattle.machine.specs.Valid.{thread-valid, zero-thread}
-use Rattle.conflict.specs.Conflict.{struck, strike, others}
+use Rattle.step_rules.specs.Conflict.{struck, strike, others}
 use Rattle.laws_keeping.proofs.Held.{nothing-is-empty, empty-touches}
 use Rattle.laws_keeping.proofs.Fails.{shaped-sets}
 use Rattle.laws_keeping.proofs.Sets.{writes-touch}

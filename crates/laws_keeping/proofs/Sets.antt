@@ -22,21 +22,21 @@ use Rattle.thread.specs.declared.Thread.{Thread}
 use Rattle.thread.specs.declared.Effect.{Effect}
 use Rattle.event.specs.Event.{operands-right}
 use Rattle.event.specs.declared.Event.{Event}
-use Rattle.power_common.specs.Common.{cr0-from-state, fails, dooms}
-use Rattle.power_access.specs.Access.{takes, tracked, loads, ld-overflows, std-overflows, load, logs, meets-own, store, tlbie}
-use Rattle.power_aborts.specs.Aborts.{tabort, tabort-if}
-use Rattle.power_begins.specs.Begins.{tbegin}
-use Rattle.power_ends.specs.Ends.{commits, tend}
-use Rattle.power_suspends.specs.Suspends.{tsuspend, tresume, tsr}
-use Rattle.power_reclaims.specs.Reclaims.{tcheck, treclaim, trechkpt}
-use Rattle.power_special.specs.Special.{mtspr}
-use Rattle.power_returns.specs.Returns.{taking}
+use Rattle.power_rules.specs.Common.{cr0-from-state, fails, dooms}
+use Rattle.power_rules.specs.Access.{takes, tracked, loads, ld-overflows, std-overflows, load, logs, meets-own, store, tlbie}
+use Rattle.power_rules.specs.Aborts.{tabort, tabort-if}
+use Rattle.power_rules.specs.Begins.{tbegin}
+use Rattle.power_rules.specs.Ends.{commits, tend}
+use Rattle.power_rules.specs.Suspends.{tsuspend, tresume, tsr}
+use Rattle.power_rules.specs.Reclaims.{tcheck, treclaim, trechkpt}
+use Rattle.power_rules.specs.Special.{mtspr}
+use Rattle.power_rules.specs.Returns.{taking}
 use Rattle.thread.specs.declared.turns.Turn.{Turn}
 use Rattle.thread.specs.declared.turns.Turn.the-variants.{Bad, Fails, To}
-use Rattle.power_plain.specs.Plain.{disallowed, interrupt, host}
-use Rattle.power_effect.specs.Effects.{effect}
-use Rattle.power_effect.proofs.Cases.{effect-by}
-use Rattle.power_common.specs.declared.Did.{Did}
+use Rattle.power_rules.specs.Plain.{disallowed, interrupt, host}
+use Rattle.step_rules.specs.Effects.{effect}
+use Rattle.step_rules.proofs.Cases.{effect-by}
+use Rattle.power_rules.specs.declared.Did.{Did}
 use Rattle.machine.specs.Valid.{memory-sized, thread-valid}
 use Rattle.laws_keeping.proofs.Held.{Shaped, join-has, store-has, store-reads, empty-touches}
 use Rattle.laws_keeping.proofs.Fails.{valid-shaped}

@@ -25,7 +25,7 @@ use Rattle.thread.specs.declared.State.the-variants.{N, T, S}
 use Rattle.thread.specs.declared.Thread.{Thread}
 use Rattle.machine.specs.Machine.{thread, no-thread}
 use Rattle.machine.specs.Valid.{thread-valid, zero-state, zero-msr, zero-control, zero-thread}
-use Rattle.conflict.specs.Conflict.{hits, struck, strike}
+use Rattle.step_rules.specs.Conflict.{hits, struck, strike}
 use Rattle.laws_keeping.proofs.Fails.{live-unfailed-t, live-unfailed-s, held-nothing-n, held-nothing-s, failure-keeps-t, failure-keeps-s, failure-empties}
 use Rattle.laws_keeping.proofs.Sets.{Sheds, sheds-writes, sheds-touches, recording-sheds, handling-sheds}
 

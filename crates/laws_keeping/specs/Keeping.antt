@@ -6,8 +6,8 @@ use Prim.Native.Nat.{ℕ}
 use lib.ListN.{length}
 use Rattle.event.specs.declared.Event.{Event}
 use Rattle.machine.specs.Valid.{valid}
-use Rattle.refusal.specs.Refusal.{refusal}
-use Rattle.step.specs.Step.{outcome, step}
+use Rattle.step_rules.specs.Refusal.{refusal}
+use Rattle.step_rules.specs.Step.{outcome, step}
 use Rattle.machine.specs.declared.Machine.{Machine}
 
 -- from a valid machine every event, refused or not, leaves a valid machine over a memory of the same length

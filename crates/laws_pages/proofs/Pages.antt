@@ -19,18 +19,18 @@ use Rattle.thread.specs.declared.State.{State}
 use Rattle.thread.specs.declared.State.the-variants.{N, T, S}
 use Rattle.thread.specs.declared.Thread.{Thread}
 use Rattle.event.specs.declared.Event.the-variants.{Tlbie}
-use Rattle.power_common.specs.Common.{advance, passes, dooms}
-use Rattle.power_access.specs.Access.{meets-own, tlbie}
-use Rattle.power_effect.specs.Effects.{effect}
+use Rattle.power_rules.specs.Common.{advance, passes, dooms}
+use Rattle.power_rules.specs.Access.{meets-own, tlbie}
+use Rattle.step_rules.specs.Effects.{effect}
 use Rattle.machine.specs.Machine.{thread, no-thread}
 use Rattle.machine.specs.Valid.{thread-valid, valid}
 use Rattle.machine.specs.declared.Machine.{Machine}
 use Rattle.machine.proofs.Validity.{valid-thread, valid-count}
-use Rattle.refusal.specs.Refusal.{in-t, refusal}
-use Rattle.refusal.proofs.Laws.{passed-thread, refusal-valid}
-use Rattle.conflict.specs.Conflict.{hits, struck, strike, others}
-use Rattle.step.specs.Step.{perform, step}
-use Rattle.step.proofs.Laws.{step-passed}
+use Rattle.step_rules.specs.Refusal.{in-t, refusal}
+use Rattle.step_rules.proofs.Refusals.{passed-thread, refusal-valid}
+use Rattle.step_rules.specs.Conflict.{hits, struck, strike, others}
+use Rattle.step_rules.specs.Step.{perform, step}
+use Rattle.step_rules.proofs.Steps.{step-passed}
 use Rattle.laws_keeping.proofs.Fails.{live-unfailed-t, live-unfailed-s, held-nothing-s}
 use Rattle.laws_keeping.proofs.Parts.{valid-right}
 use Rattle.laws_keeping.proofs.Struck.{no-page, strike-length, strike-other}

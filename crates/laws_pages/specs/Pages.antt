@@ -12,8 +12,8 @@ use Rattle.event.specs.declared.Event.the-variants.{Tlbie}
 use Rattle.machine.specs.Machine.{thread}
 use Rattle.machine.specs.Valid.{valid}
 use Rattle.machine.specs.declared.Machine.{Machine}
-use Rattle.refusal.specs.Refusal.{in-t, refusal}
-use Rattle.step.specs.Step.{step}
+use Rattle.step_rules.specs.Refusal.{in-t, refusal}
+use Rattle.step_rules.specs.Step.{step}
 
 -- the thread's transaction is live
 abbrev pub live : Thread → Bool

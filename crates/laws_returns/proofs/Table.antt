@@ -15,15 +15,15 @@ use Rattle.thread.specs.declared.Thread.{Thread}
 use Rattle.event.specs.Event.{kind, operands-right, tm-instruction, privileged}
 use Rattle.event.specs.declared.Event.{Event}
 use Rattle.event.specs.declared.Event.the-variants.{Rfid, Mtmsrd}
-use Rattle.power_common.specs.Common.{quiet, next}
-use Rattle.power_common.specs.declared.Did.{Did}
-use Rattle.power_returns.specs.Returns.{taking, rfid, mtmsrd}
-use Rattle.power_effect.specs.Effects.{effect}
+use Rattle.power_rules.specs.Common.{quiet, next}
+use Rattle.power_rules.specs.declared.Did.{Did}
+use Rattle.power_rules.specs.Returns.{taking, rfid, mtmsrd}
+use Rattle.step_rules.specs.Effects.{effect}
 use Rattle.machine.specs.Machine.{thread}
 use Rattle.machine.specs.declared.Machine.{Machine}
-use Rattle.refusal.specs.Refusal.{bad-thing, turned-down, refused-there, refused-later, refusal}
-use Rattle.refusal.proofs.Laws.{refusal-valid}
-use Rattle.step.specs.Step.{Outcome, outcome, applied, perform, step}
+use Rattle.step_rules.specs.Refusal.{bad-thing, turned-down, refused-there, refused-later, refusal}
+use Rattle.step_rules.proofs.Refusals.{refusal-valid}
+use Rattle.step_rules.specs.Step.{Outcome, outcome, applied, perform, step}
 use Rattle.laws_returns.specs.Table.{cell, given, Privileged, MtmsrdByTable, RfidByTable}
 
 -- a test within an effect, and on its outcome

@@ -11,11 +11,11 @@ use Rattle.thread.specs.declared.State.{State}
 use Rattle.thread.specs.declared.State.the-variants.{N, T, S}
 use Rattle.thread.specs.declared.Thread.{Thread}
 use Rattle.event.specs.declared.Event.the-variants.{Rfid, Mtmsrd}
-use Rattle.power_common.specs.Common.{did, quiet, next, fails}
+use Rattle.power_rules.specs.Common.{did, quiet, next, fails}
 use Rattle.machine.specs.Machine.{thread}
 use Rattle.machine.specs.Valid.{valid}
 use Rattle.machine.specs.declared.Machine.{Machine}
-use Rattle.step.specs.Step.{Outcome, outcome, applied, step}
+use Rattle.step_rules.specs.Step.{Outcome, outcome, applied, step}
 
 -- a cell: a Bad Thing; a failure; or the state and TM that come
 pub data Cell : Type 0 where

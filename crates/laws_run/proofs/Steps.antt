@@ -11,11 +11,11 @@ use Rattle.base.proofs.Below.{fork}
 use Rattle.event.specs.declared.Event.{Event}
 use Rattle.machine.specs.Machine.{thread}
 use Rattle.machine.specs.Valid.{machine-number}
-use Rattle.refusal.specs.Refusal.{refusal}
-use Rattle.step.specs.Step.{Outcome, outcome, perform, step}
-use Rattle.step.specs.Feed.{Fed, feed, from}
+use Rattle.step_rules.specs.Refusal.{refusal}
+use Rattle.step_rules.specs.Step.{Outcome, outcome, perform, step}
+use Rattle.step_rules.specs.Feed.{Fed, feed, from}
 use Rattle.machine.specs.declared.Machine.{Machine}
-use Rattle.step.proofs.Laws.{step-refused, step-passed}
+use Rattle.step_rules.proofs.Steps.{step-refused, step-passed}
 use Rattle.tape.specs.Tape.{record-size, read, record-at}
 use Rattle.tape.specs.FirstBad.{found, bad-record}
 use Rattle.tape.specs.declared.Read.{Read}

@@ -7,8 +7,8 @@ use Prim.Native.Nat.{ℕ, _+_, _%_, _/_, _<_}
 use lib.Dec.{eqb}
 use lib.ListN.{length, getD}
 use Rattle.machine.specs.Valid.{valid}
-use Rattle.step.specs.Step.{Outcome, outcome, step}
-use Rattle.step.specs.Feed.{Fed, from, after, feed}
+use Rattle.step_rules.specs.Step.{Outcome, outcome, step}
+use Rattle.step_rules.specs.Feed.{Fed, from, after, feed}
 use Rattle.machine.specs.declared.Machine.{Machine}
 use Rattle.event.specs.declared.Event.{Event}
 use Rattle.tape.specs.Tape.{record-size, read, number, record-at}

@@ -6,8 +6,8 @@ use Prim.Native.Nat.{ℕ}
 use borrow.Author.Tests.{ne-eqb}
 use Rattle.event.specs.declared.Event.the-variants.{Ld}
 use Rattle.machine.specs.Machine.{thread}
-use Rattle.step.specs.Step.{Outcome, step}
-use Rattle.step.specs.Feed.{Fed}
+use Rattle.step_rules.specs.Step.{Outcome, step}
+use Rattle.step_rules.specs.Feed.{Fed}
 use Rattle.machine.specs.declared.Machine.{Machine}
 use Rattle.laws_secrecy.specs.Secrecy.{Stepping, after-by, Agrees}
 use Rattle.laws_secrecy.specs.Corollaries.{LoadsSame, seen, SeenSame}

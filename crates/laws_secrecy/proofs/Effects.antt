@@ -33,21 +33,21 @@ use Rattle.kinds.specs.Rows.{tm-spr}
 use Rattle.event.specs.Event.{trechkpt-kind, mtspr-kind, kind, tm-instruction}
 use Rattle.event.specs.declared.Event.{Event}
 use Rattle.event.specs.declared.Event.the-variants.{Trechkpt, Mtspr}
-use Rattle.power_common.specs.Common.{did, doing, quiet, passes, gpr, fails, abort-cause}
-use Rattle.power_access.specs.Access.{tracked, ld-overflows, takes, loads, load, stores, logs, store, tlbie}
-use Rattle.power_aborts.specs.Aborts.{tabort}
-use Rattle.power_begins.specs.Begins.{tbegin}
-use Rattle.power_ends.specs.Ends.{commits, tend}
-use Rattle.power_suspends.specs.Suspends.{tresume, tsr}
-use Rattle.power_reclaims.specs.Reclaims.{tcheck, treclaim}
-use Rattle.power_plain.specs.Plain.{disallowed, host}
-use Rattle.power_returns.specs.Returns.{taking}
+use Rattle.power_rules.specs.Common.{did, doing, quiet, passes, gpr, fails, abort-cause}
+use Rattle.power_rules.specs.Access.{tracked, ld-overflows, takes, loads, load, stores, logs, store, tlbie}
+use Rattle.power_rules.specs.Aborts.{tabort}
+use Rattle.power_rules.specs.Begins.{tbegin}
+use Rattle.power_rules.specs.Ends.{commits, tend}
+use Rattle.power_rules.specs.Suspends.{tresume, tsr}
+use Rattle.power_rules.specs.Reclaims.{tcheck, treclaim}
+use Rattle.power_rules.specs.Plain.{disallowed, host}
+use Rattle.power_rules.specs.Returns.{taking}
 use Rattle.thread.specs.Turns.{table}
 use Rattle.thread.specs.declared.turns.Asked.{Asked}
-use Rattle.power_effect.specs.Effects.{effect}
-use Rattle.power_effect.proofs.Cases.{effect-by}
-use Rattle.power_common.specs.declared.Did.{Did}
-use Rattle.refusal.specs.Refusal.{bad-thing, refused-there}
+use Rattle.step_rules.specs.Effects.{effect}
+use Rattle.step_rules.proofs.Cases.{effect-by}
+use Rattle.power_rules.specs.declared.Did.{Did}
+use Rattle.step_rules.specs.Refusal.{bad-thing, refused-there}
 use Rattle.laws_keeping.proofs.Effects.{not-bad}
 use Rattle.laws_secrecy.specs.Secrecy.{AlikeThread, tells}
 

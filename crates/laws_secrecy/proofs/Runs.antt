@@ -13,9 +13,9 @@ use Rattle.base.proofs.Below.{fork}
 use Rattle.event.specs.declared.Event.{Event}
 use Rattle.machine.specs.Machine.{thread}
 use Rattle.machine.specs.Valid.{valid}
-use Rattle.step.specs.Step.{Outcome, outcome, step}
-use Rattle.step.specs.Feed.{from}
-use Rattle.refusal.specs.Refusal.{in-t}
+use Rattle.step_rules.specs.Step.{Outcome, outcome, step}
+use Rattle.step_rules.specs.Feed.{from}
+use Rattle.step_rules.specs.Refusal.{in-t}
 use Rattle.machine.specs.declared.Machine.{Machine}
 use Rattle.machine.proofs.Validity.{valid-passes}
 use Rattle.laws_keeping.proofs.Keeping.{keeps}

@@ -6,9 +6,9 @@ use mathlib.Core.List.{List, [], _∷_, _++_}
 use Prim.Native.Nat.{ℕ}
 use lib.ListN.{length}
 use Rattle.machine.specs.Valid.{valid}
-use Rattle.refusal.specs.Refusal.{in-t}
-use Rattle.step.specs.Step.{Outcome, outcome, step}
-use Rattle.step.specs.Feed.{Fed, after, feed}
+use Rattle.step_rules.specs.Refusal.{in-t}
+use Rattle.step_rules.specs.Step.{Outcome, outcome, step}
+use Rattle.step_rules.specs.Feed.{Fed, after, feed}
 use Rattle.machine.specs.declared.Machine.{Machine}
 use Rattle.laws_keeping.proofs.Keeping.{keeps}
 use Rattle.laws_secrecy.specs.Secrecy.{Alike, Until, Agree, Agrees, Secret, Ended}

@@ -20,16 +20,16 @@ use Rattle.thread.specs.declared.Thread.{Thread}
 use Rattle.thread.specs.declared.Effect.{Effect}
 use Rattle.event.specs.Event.{operands-right}
 use Rattle.event.specs.declared.Event.{Event}
-use Rattle.power_effect.specs.Effects.{effect}
+use Rattle.step_rules.specs.Effects.{effect}
 use Rattle.machine.specs.Machine.{thread, no-thread}
 use Rattle.machine.specs.Valid.{thread-valid, zero-state, valid}
-use Rattle.refusal.specs.Refusal.{in-t, refused-there, refused-later, refusal}
-use Rattle.conflict.specs.Conflict.{others}
-use Rattle.step.specs.Step.{perform, step}
+use Rattle.step_rules.specs.Refusal.{in-t, refused-there, refused-later, refusal}
+use Rattle.step_rules.specs.Conflict.{others}
+use Rattle.step_rules.specs.Step.{perform, step}
 use Rattle.machine.specs.declared.Machine.{Machine}
 use Rattle.machine.proofs.Validity.{valid-thread}
-use Rattle.refusal.proofs.Laws.{passed-there, refusal-valid}
-use Rattle.step.proofs.Laws.{step-refused, step-passed}
+use Rattle.step_rules.proofs.Refusals.{passed-there, refusal-valid}
+use Rattle.step_rules.proofs.Steps.{step-refused, step-passed}
 use Rattle.laws_keeping.proofs.Fails.{live-unfailed-t, valid-shaped}
 use Rattle.laws_keeping.proofs.Struck.{zero-in-n}
 use Rattle.laws_keeping.proofs.Others.{Fits}

@@ -19,7 +19,7 @@ use Rattle.thread.specs.declared.State.the-variants.{T}
 use Rattle.thread.specs.declared.Control.{Control}
 use Rattle.thread.specs.declared.Thread.{Thread}
 use Rattle.machine.specs.Machine.{thread, no-thread}
-use Rattle.conflict.specs.Conflict.{hits, conflict-cause, struck, strike, others}
+use Rattle.step_rules.specs.Conflict.{hits, conflict-cause, struck, strike, others}
 use Rattle.laws_secrecy.specs.Secrecy.{AlikeThread}
 use Rattle.laws_secrecy.proofs.Effects.{Even, both, set-both, beside, is-beside, failure-same}
 

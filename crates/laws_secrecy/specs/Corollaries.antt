@@ -8,8 +8,8 @@ use Rattle.event.specs.declared.Event.{Event}
 use Rattle.event.specs.declared.Event.the-variants.{Ld}
 use Rattle.machine.specs.Machine.{thread}
 use Rattle.machine.specs.Valid.{valid}
-use Rattle.step.specs.Step.{Outcome, outcome, step}
-use Rattle.step.specs.Feed.{Fed, from}
+use Rattle.step_rules.specs.Step.{Outcome, outcome, step}
+use Rattle.step_rules.specs.Feed.{Fed, from}
 use Rattle.machine.specs.declared.Machine.{Machine}
 use Rattle.laws_secrecy.specs.Secrecy.{Alike, allowed, Stepping, after-by, Until, Agree}
 

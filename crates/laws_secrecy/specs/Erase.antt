@@ -13,8 +13,8 @@ use Rattle.thread.specs.declared.Thread.{Thread}
 use Rattle.event.specs.declared.Event.{Event}
 use Rattle.machine.specs.Machine.{thread, with-threads}
 use Rattle.machine.specs.Valid.{valid}
-use Rattle.step.specs.Step.{outcome, step}
-use Rattle.step.specs.Feed.{from}
+use Rattle.step_rules.specs.Step.{outcome, step}
+use Rattle.step_rules.specs.Feed.{from}
 use Rattle.machine.specs.declared.Machine.{Machine}
 use Rattle.laws_secrecy.specs.Secrecy.{Alike, allowed, Agree}
 

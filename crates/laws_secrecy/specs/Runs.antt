@@ -6,7 +6,7 @@ use mathlib.Core.List.{List}
 use Prim.Native.Nat.{ℕ}
 use lib.ListN.{length}
 use Rattle.machine.specs.Valid.{valid}
-use Rattle.step.specs.Step.{outcome, step}
+use Rattle.step_rules.specs.Step.{outcome, step}
 use Rattle.machine.specs.declared.Machine.{Machine}
 use Rattle.run.specs.Run.{Result, reads, run}
 use Rattle.laws_run.specs.Steps.{events}

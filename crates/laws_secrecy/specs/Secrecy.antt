@@ -11,12 +11,12 @@ use Rattle.thread.specs.declared.State.the-variants.{T}
 use Rattle.thread.specs.declared.Thread.{Thread}
 use Rattle.event.specs.declared.Event.{Event}
 use Rattle.event.specs.declared.Event.the-variants.{Tbegin, Tend, Tabort, Tabortwc, Tabortdc, Tsr, Tcheck, Treclaim, Trechkpt, Mtspr, Mfspr, Ld, Std, Addi, Disallowed, Interrupt, Host, Rfid, Mtmsrd, Lbz, Lhz, Lwz, Stb, Sth, Stw, Tlbie}
-use Rattle.power_ends.specs.Ends.{commits}
+use Rattle.power_rules.specs.Ends.{commits}
 use Rattle.machine.specs.Machine.{thread}
 use Rattle.machine.specs.Valid.{valid}
-use Rattle.refusal.specs.Refusal.{in-t, refusal}
-use Rattle.step.specs.Step.{Outcome, outcome, step}
-use Rattle.step.specs.Feed.{Fed, feed}
+use Rattle.step_rules.specs.Refusal.{in-t, refusal}
+use Rattle.step_rules.specs.Step.{Outcome, outcome, step}
+use Rattle.step_rules.specs.Feed.{Fed, feed}
 use Rattle.machine.specs.declared.Machine.{Machine}
 
 -- two threads alike except for their live registers (general registers and CR fields, CR0 too) and the values in their logs; both are Transactional.

@@ -18,10 +18,10 @@ use Rattle.machine.specs.Machine.{thread}
 use Rattle.machine.specs.Valid.{valid, first-of}
 use Rattle.machine.specs.declared.Machine.{Machine}
 use Rattle.machine.proofs.Validity.{valid-passes, passes-valid}
-use Rattle.refusal.specs.Refusal.{host-in-t, off, forbidden, bad-thing, refused-there, refused-later, refusal, turned-down}
-use Rattle.refusal.proofs.Laws.{refusal-valid}
-use Rattle.step.specs.Step.{Outcome, step}
-use Rattle.step.proofs.Laws.{step-refused}
+use Rattle.step_rules.specs.Refusal.{host-in-t, off, forbidden, bad-thing, refused-there, refused-later, refusal, turned-down}
+use Rattle.step_rules.proofs.Refusals.{refusal-valid}
+use Rattle.step_rules.specs.Step.{Outcome, step}
+use Rattle.step_rules.proofs.Steps.{step-refused}
 use Rattle.tape.specs.Tape.{record-size, first-byte, byte, record-at, fields-at, fixed-zero, unused-clear, judged, of-kind, read}
 use Rattle.tape.specs.declared.Read.{Read}
 use Rattle.tape.specs.declared.Read.the-variants.{Record, Refused}

@@ -12,21 +12,21 @@ use Rattle.doubleword.specs.Doubleword as doubleword
 use Rattle.transaction.specs.Transaction as transaction
 use Rattle.thread.specs.Thread.{recording, handling, felled}
 use Rattle.event.specs.Event.{kind, operands-right, tm-instruction, privileged}
-use Rattle.power_common.specs.Common.{fails, dooms}
-use Rattle.power_aborts.specs.Compare as compare
-use Rattle.power_access.specs.Access.{load, logs, meets-own, store}
-use Rattle.power_aborts.specs.Aborts.{tabort, tabort-if}
-use Rattle.power_begins.specs.Begins.{tbegin}
-use Rattle.power_suspends.specs.Suspends.{tsuspend, tsr}
-use Rattle.power_plain.specs.Plain.{addi, disallowed, host}
-use Rattle.power_effect.specs.Effects.{effect}
+use Rattle.power_rules.specs.Common.{fails, dooms}
+use Rattle.power_rules.specs.Compare as compare
+use Rattle.power_rules.specs.Access.{load, logs, meets-own, store}
+use Rattle.power_rules.specs.Aborts.{tabort, tabort-if}
+use Rattle.power_rules.specs.Begins.{tbegin}
+use Rattle.power_rules.specs.Suspends.{tsuspend, tsr}
+use Rattle.power_rules.specs.Plain.{addi, disallowed, host}
+use Rattle.step_rules.specs.Effects.{effect}
 use Rattle.machine.specs.Machine.{fresh, fresh-thread}
 use Rattle.machine.specs.Valid as valid
-use Rattle.refusal.specs.Refusal.{bad-thing, turned-down, refused-there, refused-later}
-use Rattle.conflict.specs.Conflict.{hits, struck, strike, others}
-use Rattle.step.specs.Step.{Outcome, outcome, perform, step}
-use Rattle.step.specs.Feed.{Fed, after}
-use Rattle.refusal.proofs.Laws.{refusal-valid}
+use Rattle.step_rules.specs.Refusal.{bad-thing, turned-down, refused-there, refused-later}
+use Rattle.step_rules.specs.Conflict.{hits, struck, strike, others}
+use Rattle.step_rules.specs.Step.{Outcome, outcome, perform, step}
+use Rattle.step_rules.specs.Feed.{Fed, after}
+use Rattle.step_rules.proofs.Refusals.{refusal-valid}
 use Rattle.laws_keeping.proofs.Keeping.{keeps}
 use Rattle.laws_values.specs.Bench.{Case, Expect, met, all-met, told, holds, all-hold, table, k1, k2, k3, k4, k5, k6, k6-done, k7, k7-done, k8, k9, k10, k10-not}
 

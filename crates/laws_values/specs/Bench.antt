@@ -11,8 +11,8 @@ use Rattle.thread.specs.declared.Thread.{Thread}
 use Rattle.event.specs.declared.Event.{Event}
 use Rattle.event.specs.declared.Event.the-variants.{Tbegin, Tabort, Tabortwc, Tabortdc, Tsr, Ld, Std, Addi, Disallowed, Host}
 use Rattle.machine.specs.Machine.{thread, with-threads, fresh, fresh-memory}
-use Rattle.step.specs.Step.{Outcome, outcome}
-use Rattle.step.specs.Feed.{Fed, from, after}
+use Rattle.step_rules.specs.Step.{Outcome, outcome}
+use Rattle.step_rules.specs.Feed.{Fed, from, after}
 use Rattle.machine.specs.declared.Machine.{Machine}
 
 -- what is expected of a thread's registers afterwards

@@ -1,7 +1,7 @@
 // The comparisons of tabortwc. and tabortdc.
 ghost use mathlib.Core.Path.{_≡_};
 ghost use Prim.Native.Nat.{_<_, _≤_, _^_};
-ghost use Rattle.power_aborts.specs.Compare.{turned, picked, holds, holds-in-words, holds-in-doublewords};
+ghost use Rattle.power_rules.specs.Compare.{turned, picked, holds, holds-in-words, holds-in-doublewords};
 
 // The sign turned over: signed numbers are ordered as these.
 fn turned(half: u64, a: u64) -> u64

@@ -10,8 +10,8 @@ use Rattle.thread.specs.Thread.{with-transaction}
 use Rattle.thread.specs.declared.State.{State}
 use Rattle.thread.specs.declared.State.the-variants.{N, T, S}
 use Rattle.thread.specs.declared.Thread.{Thread}
-use Rattle.power_common.specs.Common.{quiet, passes, fails}
-use Rattle.power_access.specs.Access.{takes, joins, loads, load, stores, logs}
+use Rattle.power_rules.specs.Common.{quiet, passes, fails}
+use Rattle.power_rules.specs.Access.{takes, joins, loads, load, stores, logs}
 use Rattle.power_access.specs.Inner.{joining}
 
 module _ (t : Thread) (rt i b w : ℕ) (mem : List ℕ) where

@@ -7,7 +7,7 @@ ghost use Rattle.transaction.specs.Transaction.{touches-page};
 ghost use Rattle.transaction.specs.declared.Transaction.{Transaction};
 ghost use Rattle.rows.specs.Rows.{head-of, held, standing};
 ghost use Rattle.rows.specs.Landed.{landed};
-ghost use Rattle.power_access.specs.Access.{tlbie};
+ghost use Rattle.power_rules.specs.Access.{tlbie};
 use base::CR_FIELDS;
 use base::GPRS;
 use base::answer;

@@ -4,7 +4,7 @@ use Rattle.thread.specs.declared.State.the-variants.{N}
 use Rattle.rows.specs.Rows.{with-control}
 use Rattle.rows.specs.declared.Head.{Head}
 use Rattle.power_common.specs.Inner.{advanced, told}
-use Rattle.power_begins.specs.Begins.{begins}
+use Rattle.power_rules.specs.Begins.{begins}
 
 -- tbegin. in N
 abbrev pub opened : Head → Bool → Head

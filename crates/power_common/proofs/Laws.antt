@@ -13,7 +13,7 @@ use Rattle.thread.specs.declared.Thread.{Thread}
 use Rattle.rows.specs.Rows.{thread-with}
 use Rattle.rows.specs.declared.Head.{Head}
 use Rattle.rows.proofs.Laws.{log-none}
-use Rattle.power_common.specs.Common.{did, advance, dooms}
+use Rattle.power_rules.specs.Common.{did, advance, dooms}
 use Rattle.power_common.specs.Inner.{advanced, recorded, handled}
 
 module _ (h : Head) (gpr cr kgpr kcr ix vl : List ℕ) where

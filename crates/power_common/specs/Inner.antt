@@ -12,7 +12,7 @@ use Rattle.thread.specs.declared.State.{State}
 use Rattle.thread.specs.declared.State.the-variants.{N}
 use Rattle.rows.specs.Rows.{with-control, with-cr0}
 use Rattle.rows.specs.declared.Head.{Head}
-use Rattle.power_common.specs.Common.{next, ts-field, put-msr}
+use Rattle.power_rules.specs.Common.{next, ts-field, put-msr}
 
 -- on behind the instruction
 abbrev pub advanced : Head → Head

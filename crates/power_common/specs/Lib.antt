@@ -1,2 +1,1 @@
-pub mod Common
 pub mod Inner

@@ -3,17 +3,12 @@ pub mod place;
 
 ghost use mathlib.Core.Path.{_≡_};
 ghost use Prim.Native.Nat.{_<_};
-ghost use Rattle.power_common.specs.Common.{next, advance, passes, ts-field, own-recording};
+ghost use Rattle.power_rules.specs.Common.{next, advance, passes, ts-field, own-recording};
 use base::answer;
+use power_rules::Did;
 use thread::State;
 use thread::Thread;
 use transaction::Cause;
-
-// The answer, 0, 20 or 21, and the thread afterwards.
-pub struct Did {
-    pub answer: u8,
-    pub thread: Thread,
-}
 
 // The address after.
 pub fn next(a: u64) -> u64

@@ -5,7 +5,7 @@ ghost use Prim.Native.Nat.{ℕ, _<_};
 ghost use Rattle.base.specs.Limits.{gprs};
 ghost use Rattle.thread.specs.Thread.{recording, handling};
 ghost use Rattle.rows.specs.Rows.{head-of, thread-with, standing};
-ghost use Rattle.power_common.specs.Common.{did, fails, dooms};
+ghost use Rattle.power_rules.specs.Common.{did, fails, dooms};
 ghost use Rattle.power_common.specs.Inner.{advanced, told, shown, leveled, set-to, recorded, handled, row-or-0, row-cause};
 use base::CR_FIELDS;
 use base::GPRS;

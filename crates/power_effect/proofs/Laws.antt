@@ -29,15 +29,15 @@ use Rattle.rows.specs.Landed.{Landed, landed}
 use Rattle.rows.specs.declared.Head.{Head}
 use Rattle.rows.specs.declared.Went.{Went}
 use Rattle.rows.proofs.Laws.{log-unused}
-use Rattle.power_common.specs.Common.{did, quiet}
-use Rattle.power_common.specs.declared.Did.{Did}
-use Rattle.power_special.specs.Special.{mtspr}
-use Rattle.power_reclaims.specs.Reclaims.{treclaim, trechkpt}
-use Rattle.power_ends.specs.Ends.{commits, tend}
-use Rattle.power_access.specs.Access.{ld-overflows, std-overflows, load, logs, store, tlbie}
+use Rattle.power_rules.specs.Common.{did, quiet}
+use Rattle.power_rules.specs.declared.Did.{Did}
+use Rattle.power_rules.specs.Special.{mtspr}
+use Rattle.power_rules.specs.Reclaims.{treclaim, trechkpt}
+use Rattle.power_rules.specs.Ends.{commits, tend}
+use Rattle.power_rules.specs.Access.{ld-overflows, std-overflows, load, logs, store, tlbie}
 use Rattle.power_effect.specs.declared.Rare.{Rare}
-use Rattle.power_effect.specs.Effects.{effect}
-use Rattle.power_effect.proofs.Cases.{effect-by}
+use Rattle.step_rules.specs.Effects.{effect}
+use Rattle.step_rules.proofs.Cases.{effect-by}
 use Rattle.power_effect.specs.Inner.{rare}
 
 abbrev Touches : Effect → Type 0

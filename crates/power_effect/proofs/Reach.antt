@@ -10,12 +10,12 @@ use Rattle.event.specs.Event.{operands-right}
 use Rattle.event.specs.declared.Event.{Event}
 use Rattle.event.specs.declared.Event.the-variants.{Tbegin, Tend, Tabort, Tabortwc, Tabortdc, Tsr, Tcheck, Treclaim, Trechkpt, Mtspr, Mfspr, Ld, Std, Addi, Disallowed, Interrupt, Host, Rfid, Mtmsrd, Lbz, Lhz, Lwz, Stb, Sth, Stw, Tlbie}
 use Rattle.event.proofs.Laws.{ld-in, std-in, lbz-in, lhz-in, lwz-in, stb-in, sth-in, stw-in}
-use Rattle.power_common.specs.Common.{gpr}
-use Rattle.power_access.specs.Access.{load, store}
+use Rattle.power_rules.specs.Common.{gpr}
+use Rattle.power_rules.specs.Access.{load, store}
 use Rattle.power_access.specs.Inner.{given}
 use Rattle.power_effect.specs.declared.Access.{Access}
 use Rattle.power_effect.specs.declared.Access.the-variants.{Load, Store, Neither}
-use Rattle.power_effect.specs.Effects.{effect}
+use Rattle.step_rules.specs.Effects.{effect}
 use Rattle.power_effect.specs.Inner.{Aligned, accesses}
 
 -- an access of a register and of bytes of a memory of len doublewords

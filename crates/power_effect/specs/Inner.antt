@@ -7,9 +7,9 @@ use Rattle.thread.specs.declared.Thread.{Thread}
 use Rattle.event.specs.Event.{operands-right}
 use Rattle.event.specs.declared.Event.{Event}
 use Rattle.event.specs.declared.Event.the-variants.{Tbegin, Tend, Tabort, Tabortwc, Tabortdc, Tsr, Tcheck, Mfspr, Ld, Std, Addi, Disallowed, Interrupt, Host, Rfid, Mtmsrd, Lbz, Lhz, Lwz, Stb, Sth, Stw, Tlbie}
-use Rattle.power_common.specs.declared.Did.{Did}
-use Rattle.power_special.specs.Special.{mtspr}
-use Rattle.power_reclaims.specs.Reclaims.{treclaim, trechkpt}
+use Rattle.power_rules.specs.declared.Did.{Did}
+use Rattle.power_rules.specs.Special.{mtspr}
+use Rattle.power_rules.specs.Reclaims.{treclaim, trechkpt}
 use Rattle.doubleword.specs.Doubleword.{bytes, doubleword-of, lowest}
 use Rattle.power_effect.specs.declared.Access.{Access}
 use Rattle.power_effect.specs.declared.Access.the-variants.{Load, Store, Neither}

@@ -10,8 +10,8 @@ use Rattle.transaction.specs.Transaction as transaction
 use Rattle.rows.specs.Rows.{thread-with}
 use Rattle.rows.specs.declared.Head.{Head}
 use Rattle.rows.proofs.Laws.{log-none}
-use Rattle.power_common.specs.Common.{did}
-use Rattle.power_ends.specs.Ends.{ended}
+use Rattle.power_rules.specs.Common.{did}
+use Rattle.power_rules.specs.Ends.{ended}
 use Rattle.power_ends.specs.Inner.{closed}
 
 -- where a tend. closes nothing, the level is above 1

@@ -8,7 +8,7 @@ use Rattle.thread.specs.Thread.{with-texasr, in-state}
 use Rattle.thread.specs.declared.State.the-variants.{N, T}
 use Rattle.thread.specs.declared.Control.{Control}
 use Rattle.rows.specs.declared.Head.{Head}
-use Rattle.power_common.specs.Common.{ts-field}
+use Rattle.power_rules.specs.Common.{ts-field}
 use Rattle.power_common.specs.Inner.{advanced}
 
 -- tend. closes the transaction

@@ -7,7 +7,7 @@ ghost use Rattle.base.specs.Limits.{most-places};
 ghost use Rattle.transaction.specs.declared.Touch.the-variants.{Untouched};
 ghost use Rattle.rows.specs.Rows.{head-of, held, standing};
 ghost use Rattle.rows.specs.Landed.{landed};
-ghost use Rattle.power_ends.specs.Ends.{tend};
+ghost use Rattle.power_rules.specs.Ends.{tend};
 ghost use Rattle.power_ends.specs.Inner.{closes, closed};
 use base::PLACES;
 use base::answer;

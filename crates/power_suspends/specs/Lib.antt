@@ -1,2 +1,1 @@
-pub mod Suspends
 pub mod Inner

@@ -5,7 +5,7 @@ use Rattle.base.specs.Answers as answer
 use Rattle.thread.specs.declared.Control.{Control}
 use Rattle.event.specs.Event.{operands-right}
 use Rattle.event.specs.declared.Event.{Event}
-use Rattle.refusal.specs.Refusal.{refused-there}
+use Rattle.step_rules.specs.Refusal.{refused-there}
 
 abbrev pub refused-at : Control → Event → ℕ → ℕ
 refused-at k e len = cond (not (operands-right e len)) answer.operand (refused-there k e)

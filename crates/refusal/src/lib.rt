@@ -7,7 +7,7 @@ ghost use Rattle.base.specs.Answers as answer;
 ghost use Rattle.base.specs.Limits.{gprs};
 ghost use Rattle.event.specs.declared.Event.the-variants.{Tbegin, Tend};
 ghost use Rattle.rows.specs.Rows.{head-of};
-ghost use Rattle.refusal.specs.Refusal.{in-t, host-in-t, bad-thing, turned-down, off, forbidden, refused-there};
+ghost use Rattle.step_rules.specs.Refusal.{in-t, host-in-t, bad-thing, turned-down, off, forbidden, refused-there};
 ghost use Rattle.refusal.specs.Inner.{refused-at};
 use base::GPRS;
 use base::answer;

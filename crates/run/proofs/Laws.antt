@@ -11,7 +11,7 @@ use lib.ListN.{length, set}
 use lib.Seq.{sets}
 use Rattle.machine.specs.Valid.{valid, machine-number}
 use Rattle.machine.proofs.Validity.{valid-passes}
-use Rattle.step.specs.Step.{Outcome}
+use Rattle.step_rules.specs.Step.{Outcome}
 use Rattle.machine.specs.declared.Machine.{Machine}
 use Rattle.tape.specs.Tape.{record-size, read, record-at}
 use Rattle.tape.specs.FirstBad.{found, bad-record}

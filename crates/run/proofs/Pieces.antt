@@ -10,7 +10,7 @@ use lib.ListN.{length, take, drop, set, length-drop, take-append-drop}
 use lib.Seq.{sets, length-take-le, take-append-le, drop-append-le, drop-append-add}
 use borrow.Author.Tests.{eq-eqb, ne-eqb, eqb-true, eqb-false}
 use Rattle.machine.specs.declared.Machine.{Machine}
-use Rattle.step.specs.Step.{Outcome, step}
+use Rattle.step_rules.specs.Step.{Outcome, step}
 use Rattle.tape.specs.Tape.{record-size, read, number, record-at}
 use Rattle.tape.specs.FirstBad.{read-number, first-bad}
 use Rattle.tape.specs.declared.Found.{Found}

@@ -6,7 +6,7 @@ use lib.Dec.{eqb}
 use lib.ListN.{length}
 use Rattle.base.specs.Answers as answer
 use Rattle.machine.specs.Valid.{machine-number}
-use Rattle.step.specs.Step.{Outcome, step}
+use Rattle.step_rules.specs.Step.{Outcome, step}
 use Rattle.machine.specs.declared.Machine.{Machine}
 use Rattle.tape.specs.Tape.{record-size, read, record-at}
 use Rattle.tape.specs.FirstBad.{found, bad-record}

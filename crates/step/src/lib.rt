@@ -5,7 +5,7 @@ ghost use mathlib.Core.Path.{_≡_};
 ghost use mathlib.Core.Bool.{true};
 ghost use lib.ListN.{length};
 ghost use Rattle.machine.specs.Valid.{valid};
-ghost use Rattle.step.specs.Step.{step};
+ghost use Rattle.step_rules.specs.Step.{step};
 use base::CR_FIELDS;
 use base::GPRS;
 use base::PLACES;
@@ -14,12 +14,7 @@ use event::Event;
 use machine::Machine;
 use rows::HEAD;
 use rows::VALUES;
-
-// A step's answer and the machine after it.
-pub struct Done {
-    pub answer: u8,
-    pub machine: Machine,
-}
+use step_rules::Done;
 
 // The step on a valid machine, which is laid into rows and lifted out of them.
 fn step_valid(m: Machine, mem: &mut [u64], thread: u8, e: Event) -> Done

@@ -1,7 +1,7 @@
 -- `conflict::felled` meets its contract.
 use Prim.Native.Nat.{ℕ}
 use Rattle.conflict.proofs.Laws.{struck-is}
-use Rattle.conflict.specs.Conflict.{hits, struck}
+use Rattle.step_rules.specs.Conflict.{hits, struck}
 use Rattle.power_common.proofs.Laws.{recorded-is}
 use Rattle.power_common.specs.Inner as heads
 use Rattle.rows.specs.Rows.{head-of, thread-with, standing}

@@ -1,7 +1,7 @@
 -- `conflict::strike` meets its contract.
 use Prim.Native.Nat.{ℕ, _-_, _≤_}
 use Rattle.conflict.proofs.Laws.{strike-none, strike-step, strike-above}
-use Rattle.conflict.specs.Conflict as conflict
+use Rattle.step_rules.specs.Conflict as conflict
 use Rattle.conflict.specs.Inner.{Stands}
 use Rattle.machine.specs.Machine as machine
 use Rattle.rows.specs.Rows.{rows, threads-of}

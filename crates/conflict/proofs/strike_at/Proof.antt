@@ -1,6 +1,6 @@
 -- `conflict::strike_at` meets its contract.
 use Prim.Native.Nat.{ℕ}
-use Rattle.conflict.specs.Conflict.{struck}
+use Rattle.step_rules.specs.Conflict.{struck}
 use Rattle.machine.specs.Machine as machine
 use Rattle.rows.proofs.Laws.{thread-is, kept, changed, threads-anew}
 use Rattle.rows.specs.Rows.{Row, Rows, rows, threads-of}

@@ -1,8 +1,8 @@
 -- `power_aborts::abort` meets its contract.
 use Prim.Native.Nat.{ℕ}
 use Rattle.base.specs.Answers as answer
-use Rattle.power_aborts.specs.Aborts.{tabort}
-use Rattle.power_common.specs.Common.{did, dooms}
+use Rattle.power_rules.specs.Aborts.{tabort}
+use Rattle.power_rules.specs.Common.{did, dooms}
 use Rattle.power_common.specs.Inner as heads
 use Rattle.rows.specs.Rows.{thread-with, standing}
 use Rattle.rows.specs.declared.Head.{Head}

@@ -1,5 +1,5 @@
 -- `power_aborts::tabort` meets its contract.
-use Rattle.power_aborts.specs.Aborts.{tabort}
+use Rattle.power_rules.specs.Aborts.{tabort}
 use Rattle.rows.specs.Rows.{head-of, standing}
 use borrow.Author.Needs.{needs}
 use mathlib.Core.Path.{_∙_}

@@ -1,8 +1,8 @@
 -- `power_aborts::tabort_if` meets its contract.
 use Prim.Native.Nat.{ℕ}
 use Rattle.base.specs.Answers as answer
-use Rattle.power_aborts.specs.Aborts.{tabort, tabort-if}
-use Rattle.power_common.specs.Common.{cr0-only, did}
+use Rattle.power_rules.specs.Aborts.{tabort, tabort-if}
+use Rattle.power_rules.specs.Common.{cr0-only, did}
 use Rattle.power_common.specs.Inner as heads
 use Rattle.rows.specs.Rows.{thread-with, standing}
 use Rattle.thread.specs.declared.Thread.{Thread}

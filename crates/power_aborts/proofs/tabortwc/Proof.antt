@@ -1,5 +1,5 @@
 -- `power_aborts::tabortwc` meets its contract.
-use Rattle.power_aborts.specs.Aborts.{tabort-if}
+use Rattle.power_rules.specs.Aborts.{tabort-if}
 use Rattle.rows.specs.Rows.{standing}
 use borrow.Author.Needs.{needs}
 use mathlib.Core.Path.{ap, _∙_}

@@ -1,8 +1,8 @@
 -- `power_access::load` meets its contract.
 use Rattle.power_access.proofs.Laws.{load-apart, load-joins}
-use Rattle.power_access.specs.Access.{takes, joins, loads, load}
-use Rattle.power_common.specs.Common.{quiet, fails}
-use Rattle.power_common.specs.declared.Did.{Did}
+use Rattle.power_rules.specs.Access.{takes, joins, loads, load}
+use Rattle.power_rules.specs.Common.{quiet, fails}
+use Rattle.power_rules.specs.declared.Did.{Did}
 use Rattle.rows.specs.Landed.{Landed, landed}
 use Rattle.rows.specs.Rows.{head-of, thread-with, standing, held}
 use Rattle.rows.specs.declared.Head.{Head}

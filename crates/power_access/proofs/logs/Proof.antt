@@ -2,9 +2,9 @@
 use Prim.Native.Nat.{ℕ}
 use Rattle.base.specs.Answers as answer
 use Rattle.power_access.proofs.Laws.{logs-is, logs-crowded}
-use Rattle.power_access.specs.Access.{stores}
-use Rattle.power_common.specs.Common.{did, passes}
-use Rattle.power_common.specs.declared.Did.{Did}
+use Rattle.power_rules.specs.Access.{stores}
+use Rattle.power_rules.specs.Common.{did, passes}
+use Rattle.power_rules.specs.declared.Did.{Did}
 use Rattle.rows.specs.Landed.{Landed, landed}
 use Rattle.rows.specs.Rows.{head-of, thread-with, standing, held}
 use Rattle.thread.specs.Thread.{with-transaction}

@@ -1,7 +1,7 @@
 -- `power_access::meets_own` meets its contract.
 use Rattle.base.specs.Answers as answer
-use Rattle.power_access.specs.Access.{meets-own}
-use Rattle.power_common.specs.Common.{did, dooms, passes}
+use Rattle.power_rules.specs.Access.{meets-own}
+use Rattle.power_rules.specs.Common.{did, dooms, passes}
 use Rattle.rows.specs.Rows.{thread-with, standing}
 use borrow.Author.Needs.{needs}
 use mathlib.Core.Bool.{Bool, cond}

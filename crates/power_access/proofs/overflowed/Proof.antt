@@ -1,6 +1,6 @@
 -- `power_access::overflowed` meets its contract.
-use Rattle.power_common.specs.Common.{quiet}
-use Rattle.power_common.specs.declared.Did.{Did}
+use Rattle.power_rules.specs.Common.{quiet}
+use Rattle.power_rules.specs.declared.Did.{Did}
 use Rattle.rows.specs.Landed.{landed}
 use Rattle.transaction.specs.Transaction.{written}
 use borrow.Author.Needs.{needs}

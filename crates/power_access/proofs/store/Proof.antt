@@ -1,8 +1,8 @@
 -- `power_access::store` meets its contract.
 use Rattle.base.specs.Answers as answer
-use Rattle.power_access.specs.Access.{stores, meets-own, store}
-use Rattle.power_common.specs.Common.{did}
-use Rattle.power_common.specs.declared.Did.{Did}
+use Rattle.power_rules.specs.Access.{stores, meets-own, store}
+use Rattle.power_rules.specs.Common.{did}
+use Rattle.power_rules.specs.declared.Did.{Did}
 use Rattle.rows.specs.Landed.{Landed, landed}
 use Rattle.rows.specs.Rows.{head-of, thread-with, standing, held}
 use Rattle.thread.specs.declared.Effect.{Effect}

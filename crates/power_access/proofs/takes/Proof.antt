@@ -1,7 +1,7 @@
 -- `power_access::takes` meets its contract.
 use Rattle.base.specs.Answers as answer
 use Rattle.doubleword.specs.Doubleword.{part}
-use Rattle.power_common.specs.Common.{did}
+use Rattle.power_rules.specs.Common.{did}
 use Rattle.rows.specs.Rows.{head-of, thread-with}
 use borrow.Author.Needs.{needs}
 use lib.ListN.{set}

@@ -2,11 +2,11 @@
 use Prim.Native.Nat.{ℕ}
 use Rattle.base.specs.Answers as answer
 use Rattle.base.specs.Limits.{most-levels}
-use Rattle.power_begins.specs.Begins.{tbegin}
+use Rattle.power_rules.specs.Begins.{tbegin}
 use Rattle.power_begins.specs.Inner.{opened}
-use Rattle.power_common.specs.Common.{did, fails, leveled}
+use Rattle.power_rules.specs.Common.{did, fails, leveled}
 use Rattle.power_common.specs.Inner as heads
-use Rattle.power_common.specs.declared.Did.{Did}
+use Rattle.power_rules.specs.declared.Did.{Did}
 use Rattle.rows.specs.Rows.{thread-with, standing}
 use Rattle.rows.specs.declared.Head.{Head}
 use Rattle.thread.specs.Texasr.{tl, nested}

@@ -1,8 +1,8 @@
 -- `power_effect::by_value` meets its contract.
 use mathlib.Core.Path.{_≡_, ap, _∙_}
 use Rattle.machine.specs.Valid.{unused-zero}
-use Rattle.power_common.specs.Common.{did}
-use Rattle.power_common.specs.declared.Did.{Did}
+use Rattle.power_rules.specs.Common.{did}
+use Rattle.power_rules.specs.declared.Did.{Did}
 use Rattle.rows.specs.Rows.{head-of, standing}
 use Rattle.thread.specs.declared.Thread.{Thread}
 use Rattle.power_effect.specs.Inner.{rare}

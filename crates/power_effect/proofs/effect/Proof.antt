@@ -1,8 +1,8 @@
 -- `power_effect::effect` meets its contract.
 use lib.ListN.{length, getD}
 use mathlib.Core.Path.{_≡_, sym, ap, _∙_, subst}
-use Rattle.power_access.specs.Access.{store}
-use Rattle.power_common.specs.Common.{gpr}
+use Rattle.power_rules.specs.Access.{store}
+use Rattle.power_rules.specs.Common.{gpr}
 use Rattle.rows.specs.Landed.{Landed, landed}
 use Rattle.rows.specs.Rows.{head-of, standing}
 use Rattle.thread.specs.declared.Effect.{Effect}

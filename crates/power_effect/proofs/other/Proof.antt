@@ -8,7 +8,7 @@ use Rattle.rows.specs.Rows.{standing}
 use Rattle.thread.specs.declared.Thread.{Thread}
 use Rattle.power_effect.specs.declared.Access.{Access}
 use Rattle.power_effect.specs.declared.Access.the-variants.{Load, Store, Neither}
-use Rattle.power_effect.specs.Effects.{effect}
+use Rattle.step_rules.specs.Effects.{effect}
 use Rattle.power_effect.specs.Inner.{Ready, rare, accesses}
 use Rattle.power_effect.proofs.Laws.{page-in, quieted}
 use borrow.Author.Needs.{needs}

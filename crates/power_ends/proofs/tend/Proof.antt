@@ -1,11 +1,11 @@
 -- `power_ends::tend` meets its contract.
 use Prim.Native.Nat.{ℕ, _-_}
 use Rattle.power_ends.proofs.Laws.{deeper, closed-is}
-use Rattle.power_ends.specs.Ends.{ended, tend}
+use Rattle.power_rules.specs.Ends.{ended, tend}
 use Rattle.power_ends.specs.Inner.{closes, closed}
-use Rattle.power_common.specs.Common.{doing, quiet, leveled}
+use Rattle.power_rules.specs.Common.{doing, quiet, leveled}
 use Rattle.power_common.specs.Inner as heads
-use Rattle.power_common.specs.declared.Did.{Did}
+use Rattle.power_rules.specs.declared.Did.{Did}
 use Rattle.rows.specs.Landed.{Landed, landed}
 use Rattle.rows.specs.Rows.{head-of, thread-with, standing, held, log-of}
 use Rattle.rows.specs.declared.Head.{Head}

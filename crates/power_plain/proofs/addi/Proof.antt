@@ -1,9 +1,9 @@
 -- `power_plain::addi` meets its contract.
 use Prim.Native.Nat.{_+_, _%_, _^_}
 use Rattle.base.specs.Answers as answer
-use Rattle.power_common.specs.Common.{did}
+use Rattle.power_rules.specs.Common.{did}
 use Rattle.power_common.specs.Inner.{row-or-0}
-use Rattle.power_plain.specs.Plain.{extended, addi}
+use Rattle.power_rules.specs.Plain.{extended, addi}
 use Rattle.rows.specs.Rows.{thread-with}
 use borrow.Author.Needs.{needs}
 use lib.ListN.{set}

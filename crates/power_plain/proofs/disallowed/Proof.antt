@@ -1,8 +1,8 @@
 -- `power_plain::disallowed` meets its contract.
 use Prim.Native.Nat.{ℕ}
 use Rattle.base.specs.Answers as answer
-use Rattle.power_common.specs.Common.{did}
-use Rattle.power_plain.specs.Plain.{disallowed}
+use Rattle.power_rules.specs.Common.{did}
+use Rattle.power_rules.specs.Plain.{disallowed}
 use Rattle.rows.specs.Rows.{head-of, thread-with, standing}
 use Rattle.thread.specs.declared.State.{State}
 use Rattle.thread.specs.declared.Thread.{Thread}

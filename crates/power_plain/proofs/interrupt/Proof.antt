@@ -1,8 +1,8 @@
 -- `power_plain::interrupt` meets its contract.
 use Rattle.base.specs.Answers as answer
-use Rattle.power_common.specs.Common.{did}
+use Rattle.power_rules.specs.Common.{did}
 use Rattle.power_plain.specs.Inner.{entered}
-use Rattle.power_plain.specs.Plain.{interrupt}
+use Rattle.power_rules.specs.Plain.{interrupt}
 use Rattle.rows.specs.Rows.{thread-with}
 use mathlib.Core.Path.{ap, _∙_}
 use borrow.Author.Needs.{needs}

@@ -1,9 +1,9 @@
 -- `power_reclaims::tcheck` meets its contract.
 use Prim.Native.Nat.{ℕ, _-_}
 use Rattle.base.specs.Answers as answer
-use Rattle.power_common.specs.Common.{did, passes}
+use Rattle.power_rules.specs.Common.{did, passes}
 use Rattle.power_common.specs.Inner.{advanced}
-use Rattle.power_reclaims.specs.Reclaims.{check-field, tcheck}
+use Rattle.power_rules.specs.Reclaims.{check-field, tcheck}
 use Rattle.rows.specs.Rows.{head-of, with-cr0, thread-with, standing}
 use Rattle.rows.specs.declared.Head.{Head}
 use Rattle.thread.specs.Thread as thread

@@ -1,5 +1,5 @@
 -- `power_reclaims::trechkpt` meets its contract.
-use Rattle.power_reclaims.specs.Reclaims.{trechkpt}
+use Rattle.power_rules.specs.Reclaims.{trechkpt}
 use borrow.Author.Needs.{needs}
 use Rattle.power_reclaims.proofs.trechkpt.Statement.{statement}
 use Rattle.power_reclaims.proofs.trechkpt.Tie as tie

@@ -1,5 +1,5 @@
 -- `power_reclaims::treclaim` meets its contract.
-use Rattle.power_reclaims.specs.Reclaims.{treclaim}
+use Rattle.power_rules.specs.Reclaims.{treclaim}
 use borrow.Author.Needs.{needs}
 use Rattle.power_reclaims.proofs.treclaim.Statement.{statement}
 use Rattle.power_reclaims.proofs.treclaim.Tie as tie

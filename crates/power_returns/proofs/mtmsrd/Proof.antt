@@ -1,6 +1,6 @@
 -- `power_returns::mtmsrd` meets its contract.
 use Prim.Native.Nat.{ℕ}
-use Rattle.power_returns.specs.Returns.{returning, mtmsrd}
+use Rattle.power_rules.specs.Returns.{returning, mtmsrd}
 use Rattle.rows.specs.Rows.{head-of, standing}
 use Rattle.thread.specs.declared.Thread.{Thread}
 use mathlib.Core.List.{List}

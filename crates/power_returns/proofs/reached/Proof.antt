@@ -1,8 +1,8 @@
 -- `power_returns::reached` meets its contract.
 use Prim.Native.Nat.{ℕ}
 use Rattle.base.specs.Answers as answer
-use Rattle.power_common.specs.Common.{did}
-use Rattle.power_returns.specs.Returns.{reached}
+use Rattle.power_rules.specs.Common.{did}
+use Rattle.power_rules.specs.Returns.{reached}
 use Rattle.rows.specs.Rows.{thread-with}
 use Rattle.thread.specs.Thread.{handling}
 use Rattle.thread.specs.declared.State.{State}

@@ -1,7 +1,7 @@
 -- `power_returns::returned` meets its contract.
 use Prim.Native.Nat.{ℕ}
 use Rattle.power_returns.specs.Inner.{gone}
-use Rattle.power_returns.specs.Returns.{reached, taking, returning}
+use Rattle.power_rules.specs.Returns.{reached, taking, returning}
 use Rattle.rows.specs.Rows.{thread-with, standing}
 use Rattle.rows.specs.declared.Head.{Head}
 use Rattle.thread.specs.Turns.{turned}

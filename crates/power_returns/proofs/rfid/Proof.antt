@@ -1,7 +1,7 @@
 -- `power_returns::rfid` meets its contract.
 use Prim.Native.Nat.{ℕ, _-_, _%_}
 use lib.ListN.{getD}
-use Rattle.power_returns.specs.Returns.{returning, rfid}
+use Rattle.power_rules.specs.Returns.{returning, rfid}
 use Rattle.rows.specs.Rows.{head-of, standing}
 use Rattle.thread.specs.declared.Thread.{Thread}
 use mathlib.Core.List.{List}

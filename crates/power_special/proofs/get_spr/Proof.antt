@@ -1,6 +1,6 @@
 -- `power_special::get_spr` meets its contract.
 use borrow.Author.Tests.{eq-eqb, ne-eqb}
-use Rattle.power_special.specs.Special.{get-spr}
+use Rattle.power_rules.specs.Special.{get-spr}
 use borrow.Author.Needs.{needs}
 use Rattle.power_special.proofs.get_spr.Statement.{statement}
 use Rattle.power_special.proofs.get_spr.Tie as tie

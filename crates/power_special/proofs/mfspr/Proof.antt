@@ -1,7 +1,7 @@
 -- `power_special::mfspr` meets its contract.
 use Rattle.base.specs.Answers as answer
-use Rattle.power_common.specs.Common.{did}
-use Rattle.power_special.specs.Special.{get-spr, mfspr}
+use Rattle.power_rules.specs.Common.{did}
+use Rattle.power_rules.specs.Special.{get-spr, mfspr}
 use Rattle.rows.specs.Rows.{thread-with}
 use Rattle.rows.specs.declared.Head.{Head}
 use borrow.Author.Needs.{needs}

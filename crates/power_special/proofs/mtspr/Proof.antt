@@ -1,5 +1,5 @@
 -- `power_special::mtspr` meets its contract.
-use Rattle.power_special.specs.Special.{mtspr}
+use Rattle.power_rules.specs.Special.{mtspr}
 use borrow.Author.Needs.{needs}
 use Rattle.power_special.proofs.mtspr.Statement.{statement}
 use Rattle.power_special.proofs.mtspr.Tie as tie

@@ -1,6 +1,6 @@
 -- `power_special::put_failure` meets its contract.
 use borrow.Author.Tests.{eq-eqb, ne-eqb}
-use Rattle.power_special.specs.Special.{put-failure}
+use Rattle.power_rules.specs.Special.{put-failure}
 use borrow.Author.Needs.{needs}
 use Rattle.power_special.proofs.put_failure.Statement.{statement}
 use Rattle.power_special.proofs.put_failure.Tie as tie

@@ -1,6 +1,6 @@
 -- `power_special::put_spr` meets its contract.
 use borrow.Author.Tests.{eq-eqb, ne-eqb}
-use Rattle.power_special.specs.Special.{put-spr}
+use Rattle.power_rules.specs.Special.{put-spr}
 use borrow.Author.Needs.{needs}
 use Rattle.power_special.proofs.put_spr.Statement.{statement}
 use Rattle.power_special.proofs.put_spr.Tie as tie

@@ -1,9 +1,9 @@
 -- `power_suspends::tresume` meets its contract.
 use Prim.Native.Nat.{ℕ}
 use Rattle.base.specs.Answers as answer
-use Rattle.power_suspends.specs.Suspends.{moves, tresume}
+use Rattle.power_rules.specs.Suspends.{moves, tresume}
 use Rattle.power_suspends.specs.Inner.{moved}
-use Rattle.power_common.specs.Common.{did}
+use Rattle.power_rules.specs.Common.{did}
 use Rattle.power_common.specs.Inner as heads
 use Rattle.rows.specs.Rows.{thread-with, standing}
 use Rattle.rows.specs.declared.Head.{Head}

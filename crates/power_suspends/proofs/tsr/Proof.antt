@@ -1,6 +1,6 @@
 -- `power_suspends::tsr` meets its contract.
 use Prim.Native.Nat.{ℕ}
-use Rattle.power_suspends.specs.Suspends.{tsuspend, tresume, tsr}
+use Rattle.power_rules.specs.Suspends.{tsuspend, tresume, tsr}
 use Rattle.rows.specs.Rows.{standing}
 use Rattle.thread.specs.declared.Thread.{Thread}
 use borrow.Author.Needs.{needs}

@@ -1,9 +1,9 @@
 -- `power_suspends::tsuspend` meets its contract.
 use Prim.Native.Nat.{ℕ}
 use Rattle.base.specs.Answers as answer
-use Rattle.power_suspends.specs.Suspends.{tsuspend}
+use Rattle.power_rules.specs.Suspends.{tsuspend}
 use Rattle.power_suspends.specs.Inner.{moved}
-use Rattle.power_common.specs.Common.{did}
+use Rattle.power_rules.specs.Common.{did}
 use Rattle.power_common.specs.Inner as heads
 use Rattle.rows.specs.Rows.{thread-with, standing}
 use Rattle.rows.specs.declared.Head.{Head}

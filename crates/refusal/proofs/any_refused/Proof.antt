@@ -1,7 +1,7 @@
 -- `refusal::any_refused` meets its contract.
 use borrow.Author.Tests.{not-false, not-true}
 use mathlib.Core.Path.{sym, _∙_}
-use Rattle.refusal.specs.Refusal.{refused-there}
+use Rattle.step_rules.specs.Refusal.{refused-there}
 use borrow.Author.Needs.{needs}
 use Rattle.refusal.proofs.any_refused.Statement.{statement}
 use Rattle.refusal.proofs.any_refused.Tie as tie

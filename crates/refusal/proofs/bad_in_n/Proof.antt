@@ -1,6 +1,6 @@
 -- `refusal::bad_in_n` meets its contract.
 use borrow.Author.Tests.{eq-eqb, ne-eqb}
-use Rattle.refusal.specs.Refusal.{bad-thing}
+use Rattle.step_rules.specs.Refusal.{bad-thing}
 use borrow.Author.Needs.{needs}
 use Rattle.refusal.proofs.bad_in_n.Statement.{statement}
 use Rattle.refusal.proofs.bad_in_n.Tie as tie

@@ -1,6 +1,6 @@
 -- `refusal::bad_in_t` meets its contract.
 use borrow.Author.Tests.{eq-eqb, ne-eqb}
-use Rattle.refusal.specs.Refusal.{bad-thing}
+use Rattle.step_rules.specs.Refusal.{bad-thing}
 use Rattle.refusal.proofs.bad_in_t.Statement.{statement}
 use Rattle.refusal.proofs.bad_in_t.Tie as tie
 

@@ -1,5 +1,5 @@
 -- `refusal::bad_thing` meets its contract.
-use Rattle.refusal.specs.Refusal.{bad-thing}
+use Rattle.step_rules.specs.Refusal.{bad-thing}
 use borrow.Author.Needs.{needs}
 use Rattle.refusal.proofs.bad_thing.Statement.{statement}
 use Rattle.refusal.proofs.bad_thing.Tie as tie

@@ -1,5 +1,5 @@
 -- `refusal::refused_there` meets its contract.
-use Rattle.refusal.specs.Refusal.{refused-there}
+use Rattle.step_rules.specs.Refusal.{refused-there}
 use mathlib.Core.Path.{sym, _∙_}
 use borrow.Author.Needs.{needs}
 use Rattle.refusal.proofs.refused_there.Statement.{statement}

@@ -1,5 +1,5 @@
 -- `refusal::turned_down` meets its contract.
-use Rattle.refusal.specs.Refusal.{turned-down}
+use Rattle.step_rules.specs.Refusal.{turned-down}
 use borrow.Author.Needs.{needs}
 use Rattle.refusal.proofs.turned_down.Statement.{statement}
 use Rattle.refusal.proofs.turned_down.Tie as tie

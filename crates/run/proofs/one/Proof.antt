@@ -6,7 +6,7 @@ use Rattle.machine.specs.declared.Machine.{Machine}
 use Rattle.rows.specs.Rows.{rows, machine-of}
 use Rattle.tape.specs.Tape.{number}
 use Rattle.tape.specs.declared.Read.{Read}
-use Rattle.step.specs.Step.{Outcome, step}
+use Rattle.step_rules.specs.Step.{Outcome, step}
 use Rattle.run.specs.Run.{result, goes-on, one}
 use Rattle.run.proofs.Laws.{is-counted, not-counted}
 use borrow.Author.Needs.{needs}

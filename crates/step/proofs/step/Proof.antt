@@ -2,8 +2,8 @@
 use mathlib.Core.Path.{sym, ap, _∙_}
 use borrow.Author.Tests.{ne-eqb}
 use Rattle.machine.proofs.Validity.{passes-valid}
-use Rattle.refusal.specs.Refusal.{refusal}
-use Rattle.step.proofs.Laws.{step-refused}
+use Rattle.step_rules.specs.Refusal.{refusal}
+use Rattle.step_rules.proofs.Steps.{step-refused}
 use borrow.Author.Needs.{needs}
 use Rattle.step.proofs.step.Statement.{statement}
 use Rattle.step.proofs.step.Tie as tie

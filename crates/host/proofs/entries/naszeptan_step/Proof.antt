@@ -1,7 +1,7 @@
 -- `host::entries::naszeptan_step` meets its contract.
 use mathlib.Core.Path.{sym, ap, _∙_}
 use Rattle.base.proofs.Below.{flag-true, flag-false}
-use Rattle.step.specs.Step.{Outcome}
+use Rattle.step_rules.specs.Step.{Outcome}
 use Rattle.laws_round.specs.Round.{FieldsFit}
 use Rattle.crossing.specs.Crossing.{machine-of}
 use Rattle.host.specs.Host.{crossed, step}

@@ -1,7 +1,7 @@
 -- `power_aborts::compare::holds` meets its contract: the five comparisons in their order, and the first that holds ends the test.
 use mathlib.Core.Path.{_≡_, sym, _∙_}
 use lib.Dec.{ltb}
-use Rattle.power_aborts.specs.Compare.{turned, picked, holds}
+use Rattle.power_rules.specs.Compare.{turned, picked, holds}
 use borrow.Author.Needs.{needs}
 use Rattle.power_aborts.proofs.compare.holds.Statement.{statement}
 use Rattle.power_aborts.proofs.compare.holds.Tie as tie

@@ -1,6 +1,6 @@
 -- `power_aborts::compare::picked` meets its contract.
 use borrow.Author.Tests.{eq-eqb, ne-eqb}
-use Rattle.power_aborts.specs.Compare.{picked}
+use Rattle.power_rules.specs.Compare.{picked}
 use borrow.Author.Needs.{needs}
 use Rattle.power_aborts.proofs.compare.picked.Statement.{statement}
 use Rattle.power_aborts.proofs.compare.picked.Tie as tie

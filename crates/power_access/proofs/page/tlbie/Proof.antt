@@ -1,9 +1,9 @@
 -- `power_access::page::tlbie` meets its contract.
 use Prim.Native.Nat.{ℕ}
 use Rattle.base.specs.Answers as answer
-use Rattle.power_access.specs.Access.{meets-own, invalidates, tlbie}
-use Rattle.power_common.specs.Common.{did, quiet}
-use Rattle.power_common.specs.declared.Did.{Did}
+use Rattle.power_rules.specs.Access.{meets-own, invalidates, tlbie}
+use Rattle.power_rules.specs.Common.{did, quiet}
+use Rattle.power_rules.specs.declared.Did.{Did}
 use Rattle.rows.specs.Landed.{landed}
 use Rattle.rows.specs.Rows.{head-of, thread-with, standing}
 use Rattle.thread.specs.declared.Effect.{Effect}

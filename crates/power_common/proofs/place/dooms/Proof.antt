@@ -3,7 +3,7 @@ use mathlib.Core.Bool.{true, false}
 use mathlib.Core.Path.{sym, ap, _∙_}
 use Rattle.base.specs.Answers as answer
 use Rattle.rows.specs.Rows.{thread-with}
-use Rattle.power_common.specs.Common.{did}
+use Rattle.power_rules.specs.Common.{did}
 use Rattle.power_common.specs.Inner.{advanced}
 use Rattle.power_common.proofs.Laws.{dooms-is}
 use borrow.Author.Needs.{needs}

@@ -1,7 +1,7 @@
 -- `power_common::place::fails` meets its contract.
 use mathlib.Core.Path.{ap}
 use Rattle.base.specs.Answers as answer
-use Rattle.power_common.specs.Common.{did, fails}
+use Rattle.power_rules.specs.Common.{did, fails}
 use borrow.Author.Needs.{needs}
 use Rattle.power_common.proofs.place.fails.Statement.{statement}
 use Rattle.power_common.proofs.place.fails.Tie as tie

@@ -2,7 +2,7 @@
 use lib.ListN.{length, set}
 use mathlib.Core.Path.{_≡_, sym, ap, _∙_, subst}
 use Rattle.machine.specs.Machine as machine
-use Rattle.power_effect.specs.Effects.{effect}
+use Rattle.step_rules.specs.Effects.{effect}
 use Rattle.power_effect.specs.Inner.{Ready}
 use Rattle.rows.proofs.Laws.{thread-is, changed, threads-anew}
 use Rattle.rows.specs.Landed.{Landed, landed}

@@ -4,12 +4,12 @@ use Rattle.conflict.proofs.Laws.{others-set}
 use Rattle.conflict.specs.Inner.{others-from}
 use Rattle.machine.specs.Machine as machine
 use Rattle.power_effect.proofs.Laws.{effect-lined}
-use Rattle.power_effect.specs.Effects.{effect}
+use Rattle.step_rules.specs.Effects.{effect}
 use Rattle.rows.proofs.Laws.{thread-is}
 use Rattle.rows.specs.Rows.{head-of, Rows, rows, threads-of}
 use Rattle.thread.specs.declared.Thread.{Thread}
 use Rattle.transaction.specs.Inner.{Lined}
-use Rattle.step.specs.Step.{outcome, perform}
+use Rattle.step_rules.specs.Step.{outcome, perform}
 use Rattle.step.specs.Inner.{Own}
 use borrow.Author.Needs.{needs}
 use Rattle.step.proofs.place.perform.Statement.{statement}

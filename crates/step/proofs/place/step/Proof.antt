@@ -9,13 +9,13 @@ use Rattle.base.specs.Answers as answer
 use Rattle.machine.proofs.Validity.{valid-count, valid-memory, valid-places}
 use Rattle.machine.specs.Machine as machine
 use Rattle.machine.specs.declared.Machine.{Machine}
-use Rattle.refusal.proofs.Laws.{passed-operands, refusal-valid}
+use Rattle.step_rules.proofs.Refusals.{passed-operands, refusal-valid}
 use Rattle.refusal.specs.Inner.{refused-at}
-use Rattle.refusal.specs.Refusal.{refused-later}
+use Rattle.step_rules.specs.Refusal.{refused-later}
 use Rattle.rows.proofs.Laws.{thread-is}
 use Rattle.rows.specs.Rows.{rows, machine-of}
 use Rattle.thread.specs.declared.Thread.{Thread}
-use Rattle.step.proofs.Laws.{step-refused, step-passed}
+use Rattle.step_rules.proofs.Steps.{step-refused, step-passed}
 use borrow.Author.Needs.{needs}
 use Rattle.step.proofs.place.step.Statement.{statement}
 use Rattle.step.proofs.place.step.Tie as tie

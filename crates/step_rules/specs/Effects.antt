@@ -5,16 +5,16 @@ use Rattle.thread.specs.declared.Thread.{Thread}
 use Rattle.thread.specs.declared.Effect.{Effect}
 use Rattle.event.specs.declared.Event.{Event}
 use Rattle.event.specs.declared.Event.the-variants.{Tbegin, Tend, Tabort, Tabortwc, Tabortdc, Tsr, Tcheck, Treclaim, Trechkpt, Mtspr, Mfspr, Ld, Std, Addi, Disallowed, Interrupt, Host, Rfid, Mtmsrd, Lbz, Lhz, Lwz, Stb, Sth, Stw, Tlbie}
-use Rattle.power_common.specs.Common.{quiet, gpr, abort-cause}
-use Rattle.power_begins.specs.Begins.{tbegin}
-use Rattle.power_ends.specs.Ends.{tend}
-use Rattle.power_suspends.specs.Suspends.{tsr}
-use Rattle.power_aborts.specs.Aborts.{tabort, tabortwc, tabortdc}
-use Rattle.power_reclaims.specs.Reclaims.{tcheck, treclaim, trechkpt}
-use Rattle.power_special.specs.Special.{mtspr, mfspr}
-use Rattle.power_access.specs.Access.{ld, narrow-load, std, narrow-store, tlbie}
-use Rattle.power_plain.specs.Plain.{addi, disallowed, interrupt, host}
-use Rattle.power_returns.specs.Returns.{rfid, mtmsrd}
+use Rattle.power_rules.specs.Common.{quiet, gpr, abort-cause}
+use Rattle.power_rules.specs.Begins.{tbegin}
+use Rattle.power_rules.specs.Ends.{tend}
+use Rattle.power_rules.specs.Suspends.{tsr}
+use Rattle.power_rules.specs.Aborts.{tabort, tabortwc, tabortdc}
+use Rattle.power_rules.specs.Reclaims.{tcheck, treclaim, trechkpt}
+use Rattle.power_rules.specs.Special.{mtspr, mfspr}
+use Rattle.power_rules.specs.Access.{ld, narrow-load, std, narrow-store, tlbie}
+use Rattle.power_rules.specs.Plain.{addi, disallowed, interrupt, host}
+use Rattle.power_rules.specs.Returns.{rfid, mtmsrd}
 
 unfoldable pub effect : Event → Thread → List ℕ → Effect
 effect (Tbegin r) t mem = quiet (tbegin (t .control .msr .state) t r)

@@ -19,12 +19,12 @@ use Rattle.event.specs.declared.Event.{Event}
 use Rattle.event.specs.declared.Event.the-variants.{Tbegin, Tend, Tabort, Tabortwc, Tabortdc, Tsr, Tcheck, Treclaim, Trechkpt, Mtspr, Mfspr, Ld, Std, Addi, Disallowed, Interrupt, Host, Rfid, Mtmsrd, Lbz, Lhz, Lwz, Stb, Sth, Stw, Tlbie}
 use Rattle.event.specs.Event.{operands-right}
 use Rattle.event.proofs.Laws.{ld-in, std-in, lbz-in, lhz-in, lwz-in, stb-in, sth-in, stw-in}
-use Rattle.power_access.specs.Access.{load, store}
-use Rattle.power_common.specs.Common.{quiet, gpr, next, passes}
-use Rattle.power_special.specs.Special.{mfspr}
-use Rattle.power_plain.specs.Plain.{addi}
-use Rattle.power_returns.specs.Returns.{returning, rfid, mtmsrd}
-use Rattle.power_effect.specs.Effects.{effect}
+use Rattle.power_rules.specs.Access.{load, store}
+use Rattle.power_rules.specs.Common.{quiet, gpr, next, passes}
+use Rattle.power_rules.specs.Special.{mfspr}
+use Rattle.power_rules.specs.Plain.{addi}
+use Rattle.power_rules.specs.Returns.{returning, rfid, mtmsrd}
+use Rattle.step_rules.specs.Effects.{effect}
 
 -- what an event does to any thread over any memory
 abbrev pub Works : Type 0

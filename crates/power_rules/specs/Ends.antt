@@ -11,8 +11,8 @@ use Rattle.thread.specs.declared.State.{State}
 use Rattle.thread.specs.declared.State.the-variants.{N, T, S}
 use Rattle.thread.specs.declared.Thread.{Thread}
 use Rattle.thread.specs.declared.Effect.{Effect}
-use Rattle.power_common.specs.Common.{doing, quiet, passes, ts-field, cr0-only, leveled}
-use Rattle.power_common.specs.declared.Did.{Did}
+use Rattle.power_rules.specs.Common.{doing, quiet, passes, ts-field, cr0-only, leveled}
+use Rattle.power_rules.specs.declared.Did.{Did}
 
 -- 2. tend. (A): the last level, or A = 1, commits: the log goes to memory, and nothing of the transaction is left
 abbrev pub commits : Thread → Bool → Bool

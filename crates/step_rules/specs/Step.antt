@@ -7,12 +7,12 @@ use lib.ListN.{set, length}
 use Rattle.transaction.specs.Transaction.{written}
 use Rattle.thread.specs.declared.Effect.{Effect}
 use Rattle.event.specs.declared.Event.{Event}
-use Rattle.power_effect.specs.Effects.{effect}
+use Rattle.step_rules.specs.Effects.{effect}
 use Rattle.machine.specs.Machine.{thread, with-threads}
-use Rattle.refusal.specs.Refusal.{refusal}
-use Rattle.conflict.specs.Conflict.{others}
+use Rattle.step_rules.specs.Refusal.{refusal}
+use Rattle.step_rules.specs.Conflict.{others}
 use Rattle.machine.specs.declared.Machine.{Machine}
-use Rattle.step.specs.declared.Done.{Done}
+use Rattle.step_rules.specs.declared.Done.{Done}
 
 -- what a step leaves: its answer with the machine, and memory
 pub record Outcome : Type 0 where

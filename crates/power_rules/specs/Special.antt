@@ -7,8 +7,8 @@ use Rattle.thread.specs.Thread.{with-control, with-failure, with-saved}
 use Rattle.thread.specs.declared.Failure.{Failure}
 use Rattle.thread.specs.declared.Control.{Control}
 use Rattle.thread.specs.declared.Thread.{Thread}
-use Rattle.power_common.specs.Common.{passes, gpr, put-gpr}
-use Rattle.power_common.specs.declared.Did.{Did}
+use Rattle.power_rules.specs.Common.{passes, gpr, put-gpr}
+use Rattle.power_rules.specs.declared.Did.{Did}
 
 -- 10. mtspr (SPR, RA): which register each SPR number names; TFHAR stays a multiple of 4, TEXASRU is half a register
 unfoldable pub put-failure : Failure → ℕ → ℕ → Failure

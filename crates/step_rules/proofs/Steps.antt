@@ -6,8 +6,8 @@ use Prim.Native.Nat.{ℕ}
 use lib.Dec.{eqb}
 use lib.ListN.{length}
 use Rattle.machine.specs.declared.Machine.{Machine}
-use Rattle.refusal.specs.Refusal.{refusal}
-use Rattle.step.specs.Step.{outcome, perform, step}
+use Rattle.step_rules.specs.Refusal.{refusal}
+use Rattle.step_rules.specs.Step.{outcome, perform, step}
 use Rattle.event.specs.declared.Event.{Event}
 
 -- the step of a refused event, and of one that passes

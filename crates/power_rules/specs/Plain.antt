@@ -10,8 +10,8 @@ use Rattle.thread.specs.declared.State.{State}
 use Rattle.thread.specs.declared.State.the-variants.{N, T, S}
 use Rattle.thread.specs.declared.Control.{Control}
 use Rattle.thread.specs.declared.Thread.{Thread}
-use Rattle.power_common.specs.Common.{did, passes, put-msr, put-gpr, gpr-or-0, fails}
-use Rattle.power_common.specs.declared.Did.{Did}
+use Rattle.power_rules.specs.Common.{did, passes, put-msr, put-gpr, gpr-or-0, fails}
+use Rattle.power_rules.specs.declared.Did.{Did}
 
 -- 14. addi (RT, RA, SI): register 0 reads as zero, SI is signed
 abbrev pub extended : ℕ → ℕ

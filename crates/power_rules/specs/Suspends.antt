@@ -5,8 +5,8 @@ use Rattle.thread.specs.Thread.{with-control, in-state, handling}
 use Rattle.thread.specs.declared.State.{State}
 use Rattle.thread.specs.declared.State.the-variants.{N, T, S}
 use Rattle.thread.specs.declared.Thread.{Thread}
-use Rattle.power_common.specs.Common.{did, passes, cr0-from-state, cr0-only}
-use Rattle.power_common.specs.declared.Did.{Did}
+use Rattle.power_rules.specs.Common.{did, passes, cr0-from-state, cr0-only}
+use Rattle.power_rules.specs.declared.Did.{Did}
 
 -- 6. tsr. (L): L = 0 is T to S; L = 1 is S to T, and handling if TDOOMED
 abbrev pub moves : Thread → State → Did

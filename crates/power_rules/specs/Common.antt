@@ -16,7 +16,7 @@ use Rattle.thread.specs.declared.State.{State}
 use Rattle.thread.specs.declared.Msr.{Msr}
 use Rattle.thread.specs.declared.Thread.{Thread}
 use Rattle.thread.specs.declared.Effect.{Effect}
-use Rattle.power_common.specs.declared.Did.{Did}
+use Rattle.power_rules.specs.declared.Did.{Did}
 
 abbrev pub did : ℕ → Thread → Did
 did n t = record { answer = n; thread = t }

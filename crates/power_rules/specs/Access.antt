@@ -17,8 +17,8 @@ use Rattle.thread.specs.declared.State.{State}
 use Rattle.thread.specs.declared.State.the-variants.{N, T, S}
 use Rattle.thread.specs.declared.Thread.{Thread}
 use Rattle.thread.specs.declared.Effect.{Effect}
-use Rattle.power_common.specs.Common.{doing, quiet, passes, put-gpr, fails, dooms}
-use Rattle.power_common.specs.declared.Did.{Did}
+use Rattle.power_rules.specs.Common.{doing, quiet, passes, put-gpr, fails, dooms}
+use Rattle.power_rules.specs.declared.Did.{Did}
 
 -- under ROT a load is not tracked
 abbrev pub tracked : Thread → Bool

@@ -9,8 +9,8 @@ use Rattle.thread.specs.Thread.{with-live, with-cr0, with-control, with-transac
 use Rattle.thread.specs.declared.State.the-variants.{N, S}
 use Rattle.thread.specs.declared.Control.{Control}
 use Rattle.thread.specs.declared.Thread.{Thread}
-use Rattle.power_common.specs.Common.{passes, ts-field, own-recording, abort-cause}
-use Rattle.power_common.specs.declared.Did.{Did}
+use Rattle.power_rules.specs.Common.{passes, ts-field, own-recording, abort-cause}
+use Rattle.power_rules.specs.declared.Did.{Did}
 
 -- 7. tcheck (BF): the CR field shows, highest bit first, doomed, the state's two bits and 0
 abbrev pub put-cr : Thread → ℕ → ℕ → Thread

@@ -2,7 +2,7 @@
 use Prim.Native.Nat.{ℕ}
 use mathlib.Core.List.{List, [], _∷_}
 use Rattle.event.specs.declared.Event.{Event}
-use Rattle.step.specs.Step.{Outcome, step}
+use Rattle.step_rules.specs.Step.{Outcome, step}
 
 -- events fed one by one, each by its thread; a refused event changes nothing
 pub record Fed : Type 0 where

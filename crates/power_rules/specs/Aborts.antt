@@ -6,9 +6,9 @@ use Rattle.transaction.specs.declared.Cause.the-variants.{Abort}
 use Rattle.thread.specs.declared.State.{State}
 use Rattle.thread.specs.declared.State.the-variants.{N, T, S}
 use Rattle.thread.specs.declared.Thread.{Thread}
-use Rattle.power_common.specs.Common.{cr0-from-state, cr0-only, gpr, fails, dooms}
-use Rattle.power_common.specs.declared.Did.{Did}
-use Rattle.power_aborts.specs.Compare.{holds-in-words, holds-in-doublewords}
+use Rattle.power_rules.specs.Common.{cr0-from-state, cr0-only, gpr, fails, dooms}
+use Rattle.power_rules.specs.declared.Did.{Did}
+use Rattle.power_rules.specs.Compare.{holds-in-words, holds-in-doublewords}
 
 -- 3. tabort. (RA): the cause by RA, recorded in T and S
 unfoldable pub tabort : State → Thread → Cause → Did

@@ -11,8 +11,8 @@ use Rattle.thread.specs.declared.turns.Asked.{Asked}
 use Rattle.thread.specs.declared.turns.Turn.{Turn}
 use Rattle.thread.specs.declared.turns.Turn.the-variants.{Bad, Fails, To}
 use Rattle.thread.specs.declared.Thread.{Thread}
-use Rattle.power_common.specs.Common.{did, next, put-msr, fails}
-use Rattle.power_common.specs.declared.Did.{Did}
+use Rattle.power_rules.specs.Common.{did, next, put-msr, fails}
+use Rattle.power_rules.specs.declared.Did.{Did}
 
 -- on at an address in a state, with PR and TM
 abbrev pub goes : Thread → State → Bool → Bool → ℕ → Thread

@@ -10,8 +10,8 @@ use Rattle.thread.specs.declared.State.{State}
 use Rattle.thread.specs.declared.State.the-variants.{N, T, S}
 use Rattle.thread.specs.declared.Control.{Control}
 use Rattle.thread.specs.declared.Thread.{Thread}
-use Rattle.power_common.specs.Common.{next, passes, cr0-from-state, cr0-only, leveled, fails}
-use Rattle.power_common.specs.declared.Did.{Did}
+use Rattle.power_rules.specs.Common.{next, passes, cr0-from-state, cr0-only, leveled, fails}
+use Rattle.power_rules.specs.declared.Did.{Did}
 
 -- 1. tbegin. (R)
 abbrev pub begins : Control → Bool → Control

@@ -1,0 +1,11 @@
+pub mod Common
+pub mod Begins
+pub mod Ends
+pub mod Suspends
+pub mod Access
+pub mod Aborts
+pub mod Compare
+pub mod Reclaims
+pub mod Special
+pub mod Plain
+pub mod Returns
