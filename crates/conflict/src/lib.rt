@@ -22,6 +22,13 @@ use thread::State;
 use transaction::Cause;
 use transaction::Touch;
 
+// Whether a transaction that has only loaded a line fails too, where a load, a store or a tlbie of its page touches it.
+const READERS_OF_LOAD: bool = false;
+
+const READERS_OF_STORE: bool = true;
+
+const READERS_OF_PAGE: bool = true;
+
 // A mask for word k meets the thread's write set, or, where read sets count, its read set.
 fn hit(words: &[u64; HEAD], stores: bool, k: usize, mask: u64) -> bool
     requires { ⌜ k < limits.words ⌝ }
@@ -189,7 +196,7 @@ pub fn others(
             kcr,
             &mut *words,
             w,
-            false,
+            READERS_OF_LOAD,
             l / 64,
             lines::line_mask(l),
             conflict_cause(s),
@@ -201,7 +208,7 @@ pub fn others(
             kcr,
             &mut *words,
             w,
-            true,
+            READERS_OF_STORE,
             l / 64,
             lines::line_mask(l),
             conflict_cause(s),
@@ -213,7 +220,7 @@ pub fn others(
             kcr,
             &mut *words,
             w,
-            true,
+            READERS_OF_PAGE,
             p / 2,
             lines::page_mask(p),
             Cause::Translation,
