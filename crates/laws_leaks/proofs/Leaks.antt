@@ -2,10 +2,10 @@
 use mathlib.Core.Path.{refl}
 use mathlib.Core.Bool.{true}
 use Rattle.laws_secrecy.specs.Secrecy.{Until}
 use Rattle.laws_examples.specs.Examples.{small-memory, machine, start, ToldApart}
-use Rattle.laws_examples.specs.Leaks.{at-once, unless-same, from-log, unrestored, nonzero, by-value, never-stored, Leak, Caught, leak-at-once, leak-unless-same, leak-from-log, leak-unrestored, leak-by-value, leak-never-stored, AllCaught}
+use Rattle.laws_leaks.specs.Leaks.{at-once, unless-same, from-log, unrestored, nonzero, by-value, never-stored, Leak, Caught, leak-at-once, leak-unless-same, leak-from-log, leak-unrestored, leak-by-value, leak-never-stored, AllCaught}
 use Rattle.laws_secrecy.proofs.Corollaries.{agrees-seen}
 use Rattle.laws_examples.proofs.Examples.{computed, level-1, told-apart}
 
 -- what is told apart by events that are allowed makes the demand false
 caught : (l : Leak) → Until (l .leaky) 0 (l .shown .events) (start (l .shown) 0) → ToldApart (l .leaky) (l .shown) → Caught l
