@@ -5,7 +5,7 @@ use mathlib.Core.List.{List, []}
 use lib.ListN.{length, replicate}
 use Rattle.crossing.specs.Crossing.{right, machine-of, raw-machine}
 use Rattle.crossing.specs.declared.RawMachine.{RawMachine}
-use Rattle.run.specs.declared.Ended.{Ended}
+use Rattle.records.specs.declared.Ended.{Ended}
 use Rattle.session.specs.Session as session
 use Rattle.session.specs.declared.Session.{Session}
 use Rattle.session.specs.declared.Fed.{Fed}

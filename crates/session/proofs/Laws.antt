@@ -18,7 +18,7 @@ use Rattle.base.specs.Below.{all-below}
 use Rattle.base.proofs.Below.{and-left}
 use Rattle.machine.specs.Valid.{valid, machine-number, first-of}
 use Rattle.run.specs.Run.{Result, in-front, goes-on, reads, one, play}
-use Rattle.run.proofs.Laws.{one-keeps}
+use Rattle.records.proofs.Laws.{one-keeps}
 use Rattle.run.proofs.Pieces as pieces
 use Rattle.laws_run.specs.Steps.{Stops}
 use Rattle.laws_run.proofs.Counts.{End, ends}

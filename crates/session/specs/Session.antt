@@ -10,7 +10,7 @@ use Rattle.machine.specs.Valid.{machine-number, first-of}
 use Rattle.machine.specs.declared.Machine.{Machine}
 use Rattle.tape.specs.Tape.{record-size}
 use Rattle.run.specs.Run.{Result, reads, play}
-use Rattle.run.specs.declared.Ended.{Ended}
+use Rattle.records.specs.declared.Ended.{Ended}
 use Rattle.session.specs.declared.Session.{Session}
 use Rattle.session.specs.declared.Fed.{Fed}
 

@@ -13,7 +13,7 @@ ghost use Rattle.run.specs.Run.{reads, play};
 ghost use Rattle.session.specs.Session.{most-held, laid, session, holds, stops-at, place-right, right, number, opened, idle, wrapped, did, feed-on, feed, last-answer, close};
 use base::answer;
 use machine::Machine;
-use run::Ended;
+use records::Ended;
 use tape::RECORD_SIZE;
 
 // The most bytes that are held. specs/Session.antt has the same number for the definitions.

@@ -24,7 +24,7 @@ fn append(out: &mut [u8], at: usize, bytes: &[u8]) -> usize
 {
     let mut i = 0;
     while i < bytes.len() {
-        run::put(out, at + i, bytes[i]);
+        buffer::put(out, at + i, bytes[i]);
         i += 1;
     }
     at + i

@@ -6,7 +6,7 @@ use Prim.Native.Nat.{ℕ, _+_, _*_, _/_, _≤_}
 use native.Mathlib.Omega.{arith}
 use lib.Dec.{eqb, ltb}
 use lib.ListN.{length, drop, length-drop}
-use Rattle.run.specs.declared.Ended.{Ended}
+use Rattle.records.specs.declared.Ended.{Ended}
 use Rattle.session.specs.Session.{session, wrapped, rest}
 use Rattle.session.proofs.Laws.{ran, finished-is, rest-part}
 use borrow.Author.Needs.{needs}

@@ -14,7 +14,7 @@ use Rattle.machine.specs.declared.Machine.{Machine}
 use Rattle.tape.specs.FirstBad.{bad-record}
 use Rattle.tape.specs.declared.Found.{Found}
 use Rattle.run.specs.Run.{Result, run}
-use Rattle.run.specs.declared.Ended.{Ended}
+use Rattle.records.specs.declared.Ended.{Ended}
 use Rattle.text.specs.Inner.{Appended, most-records}
 use Rattle.text.specs.Text.{bad-line, end-line, lines, text}
 use Rattle.text.proofs.Laws.{alias, joined, from-start, read-back, lines-fit, answers-read}

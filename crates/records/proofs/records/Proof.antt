@@ -1,4 +1,4 @@
--- `run::records` meets its contract: the run from the start, its answers in the buffer, is the run with what is left from here, its answers in the buffer from place k on; and the machine is valid here.
+-- `records::records` meets its contract: the run from the start, its answers in the buffer, is the run with what is left from here, its answers in the buffer from place k on; and the machine is valid here.
 use mathlib.Core.Path.{_≡_, refl, sym, ap, _∙_}
 use mathlib.Core.Bool.{true}
 use mathlib.Core.List.{List, [], _∷_}
@@ -15,11 +15,11 @@ use Rattle.tape.specs.Tape.{read, record-at}
 use Rattle.tape.specs.FirstBad.{read-number}
 use Rattle.tape.proofs.Laws.{part-is}
 use Rattle.tape.proofs.FirstBad.{each-good}
-use Rattle.run.specs.Inner.{filled}
-use Rattle.run.specs.Run.{Result, result, reads, one, play}
-use Rattle.run.proofs.Laws.{play-none, fills-stops, fills-goes, one-index, one-keeps}
-use Rattle.run.proofs.records.Statement.{statement}
-use Rattle.run.proofs.records.Tie as tie
+use Rattle.records.specs.Inner.{filled}
+use Rattle.records.specs.Records.{Result, result, reads, one, play}
+use Rattle.records.proofs.Laws.{play-none, fills-stops, fills-goes, one-index, one-keeps}
+use Rattle.records.proofs.records.Statement.{statement}
+use Rattle.records.proofs.records.Tie as tie
 
 abbrev Inv-loop : tie.InvT-loop
 Inv-loop gpr₀ cr₀ kgpr₀ kcr₀ words₀ ix₀ vl₀ mem₀ threads tape answers₀ n k₀ gpr cr kgpr kcr words ix vl mem answers k =

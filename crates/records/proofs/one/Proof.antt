@@ -1,4 +1,4 @@
--- `run::one` meets its contract.
+-- `records::one` meets its contract.
 use mathlib.Core.Path.{sym, ap, _∙_}
 use mathlib.Core.List.{[], _∷_}
 use Prim.Native.Nat.{_+_}
@@ -7,11 +7,11 @@ use Rattle.rows.specs.Rows.{rows, machine-of}
 use Rattle.tape.specs.Tape.{number}
 use Rattle.tape.specs.declared.Read.{Read}
 use Rattle.step.specs.Step.{Outcome, step}
-use Rattle.run.specs.Run.{result, goes-on, one}
-use Rattle.run.proofs.Laws.{is-counted, not-counted}
+use Rattle.records.specs.Records.{result, goes-on, one}
+use Rattle.records.proofs.Laws.{is-counted, not-counted}
 use borrow.Author.Needs.{needs}
-use Rattle.run.proofs.one.Statement.{statement}
-use Rattle.run.proofs.one.Tie as tie
+use Rattle.records.proofs.one.Statement.{statement}
+use Rattle.records.proofs.one.Tie as tie
 
 -- the machine at the start
 abbrev machine-at : (c : tie.Start) → Machine

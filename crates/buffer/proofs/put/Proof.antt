@@ -1,9 +1,9 @@
--- `run::put` meets its contract: a buffer without the place stays as it is.
+-- `buffer::put` meets its contract: a buffer without the place stays as it is.
 use mathlib.Core.Path.{sym}
 use lib.Seq.{set-out}
 use borrow.Author.Needs.{needs}
-use Rattle.run.proofs.put.Statement.{statement}
-use Rattle.run.proofs.put.Tie as tie
+use Rattle.buffer.proofs.put.Statement.{statement}
+use Rattle.buffer.proofs.put.Tie as tie
 
 slice-write-buffer : tie.Need-slice-write-buffer
 slice-write-buffer c = search needs

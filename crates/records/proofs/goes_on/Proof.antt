@@ -1,7 +1,7 @@
--- `run::goes_on` meets its contract.
+-- `records::goes_on` meets its contract.
 use borrow.Author.Tests.{eq-eqb, ne-eqb}
-use Rattle.run.proofs.goes_on.Statement.{statement}
-use Rattle.run.proofs.goes_on.Tie as tie
+use Rattle.records.proofs.goes_on.Statement.{statement}
+use Rattle.records.proofs.goes_on.Tie as tie
 
 returns : tie.Need-returns
 returns c = simp (eq-eqb _ _ (c .if1 .taken))
