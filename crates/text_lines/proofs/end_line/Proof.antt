@@ -1,10 +1,10 @@
--- `text::end_line` meets its contract: the word, the count and the line's end.
+-- `text_lines::end_line` meets its contract: the word, the count and the line's end.
 use native.Mathlib.Omega.{arith}
-use Rattle.text.specs.Text.{end-line}
-use Rattle.text.proofs.Laws.{joined, decimal-reaches}
+use Rattle.text_lines.specs.Lines.{end-line}
+use Rattle.text_lines.proofs.Laws.{joined, decimal-reaches}
 use borrow.Author.Needs.{needs}
-use Rattle.text.proofs.end_line.Statement.{statement}
-use Rattle.text.proofs.end_line.Tie as tie
+use Rattle.text_lines.proofs.end_line.Statement.{statement}
+use Rattle.text_lines.proofs.end_line.Tie as tie
 
 slice-aggregate-append : tie.Need-slice-aggregate-append
 slice-aggregate-append c = search needs

@@ -1,9 +1,9 @@
--- `text::bad_line` meets its contract: the word, and the line of index and number.
-use Rattle.text.specs.Text.{bad-line}
-use Rattle.text.proofs.Laws.{joined}
+-- `text_lines::bad_line` meets its contract: the word, and the line of index and number.
+use Rattle.text_lines.specs.Lines.{bad-line}
+use Rattle.text_lines.proofs.Laws.{joined}
 use borrow.Author.Needs.{needs}
-use Rattle.text.proofs.bad_line.Statement.{statement}
-use Rattle.text.proofs.bad_line.Tie as tie
+use Rattle.text_lines.proofs.bad_line.Statement.{statement}
+use Rattle.text_lines.proofs.bad_line.Tie as tie
 
 slice-aggregate-append : tie.Need-slice-aggregate-append
 slice-aggregate-append c = search needs

@@ -1,10 +1,10 @@
--- `text::line` meets its contract: the index, a space, the answer and the line's end.
+-- `text_lines::line` meets its contract: the index, a space, the answer and the line's end.
 use native.Mathlib.Omega.{arith}
-use Rattle.text.specs.Text.{line}
-use Rattle.text.proofs.Laws.{joined, decimal-reaches}
+use Rattle.text_lines.specs.Lines.{line}
+use Rattle.text_lines.proofs.Laws.{joined, decimal-reaches}
 use borrow.Author.Needs.{needs}
-use Rattle.text.proofs.line.Statement.{statement}
-use Rattle.text.proofs.line.Tie as tie
+use Rattle.text_lines.proofs.line.Statement.{statement}
+use Rattle.text_lines.proofs.line.Tie as tie
 
 decimal-requires : tie.Need-decimal-requires
 decimal-requires c κs = search needs

@@ -1,4 +1,4 @@
--- `text::lines` meets its contract: what is put is what stands in out, and the lines from index k on.
+-- `text_lines::lines` meets its contract: what is put is what stands in out, and the lines from index k on.
 use mathlib.Core.Path.{_≡_, refl, sym, ap, _∙_}
 use mathlib.Core.List.{List, []}
 use Prim.Native.Nat.{ℕ, _+_, _-_, _*_, _≤_}
@@ -6,10 +6,10 @@ use native.Mathlib.Omega.{arith}
 use borrow.Author.Needs.{needs}
 use lib.ListN.{length, getD, drop}
 use lib.Seq.{sets, drop-length}
-use Rattle.text.specs.Text.{lines}
-use Rattle.text.proofs.Laws.{onward, line-fits, lines-from}
-use Rattle.text.proofs.lines.Statement.{statement}
-use Rattle.text.proofs.lines.Tie as tie
+use Rattle.text_lines.specs.Lines.{lines}
+use Rattle.text_lines.proofs.Laws.{onward, line-fits, lines-from}
+use Rattle.text_lines.proofs.lines.Statement.{statement}
+use Rattle.text_lines.proofs.lines.Tie as tie
 
 abbrev Inv-loop : tie.InvT-loop
 Inv-loop out₀ answers at₀ k₀ out at k =

@@ -1,8 +1,8 @@
--- `text::read_of` meets its contract.
+-- `text_lines::read_of` meets its contract.
 use borrow.Author.Needs.{needs}
 use borrow.Author.Tests.{lt-ltb, le-ltb}
-use Rattle.text.proofs.read_of.Statement.{statement}
-use Rattle.text.proofs.read_of.Tie as tie
+use Rattle.text_lines.proofs.read_of.Statement.{statement}
+use Rattle.text_lines.proofs.read_of.Tie as tie
 
 add-result : tie.Need-add-result
 add-result c = search needs

@@ -1,4 +1,4 @@
--- `text::append` meets its contract: what is put is what stands in out, and the bytes from the i-th on.
+-- `text_lines::append` meets its contract: what is put is what stands in out, and the bytes from the i-th on.
 use mathlib.Core.Path.{_≡_, refl, sym, ap, _∙_}
 use mathlib.Core.List.{List}
 use Prim.Native.Nat.{ℕ, _+_, _-_, _≤_}
@@ -7,9 +7,9 @@ use native.Mathlib.Omega.{arith}
 use borrow.Author.Needs.{needs}
 use lib.ListN.{length, drop}
 use lib.Seq.{sets, drop-length}
-use Rattle.text.proofs.Laws.{put-one}
-use Rattle.text.proofs.append.Statement.{statement}
-use Rattle.text.proofs.append.Tie as tie
+use Rattle.text_lines.proofs.Laws.{put-one}
+use Rattle.text_lines.proofs.append.Statement.{statement}
+use Rattle.text_lines.proofs.append.Tie as tie
 
 abbrev Inv-loop : tie.InvT-loop
 Inv-loop out₀ at bytes i₀ out i = (i ≤ length bytes) × (length out ≡ length out₀) × (sets out₀ at bytes ≡ sets out (at + i) (drop i bytes))

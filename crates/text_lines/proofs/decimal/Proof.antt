@@ -1,10 +1,10 @@
--- `text::decimal` meets its contract: as many digits as the number has.
+-- `text_lines::decimal` meets its contract: as many digits as the number has.
 use borrow.Author.Tests.{lt-ltb, le-ltb}
-use Rattle.text.specs.Text.{decimal}
-use Rattle.text.proofs.Laws.{alias}
+use Rattle.text_lines.specs.Lines.{decimal}
+use Rattle.text_lines.proofs.Laws.{alias}
 use borrow.Author.Needs.{needs}
-use Rattle.text.proofs.decimal.Statement.{statement}
-use Rattle.text.proofs.decimal.Tie as tie
+use Rattle.text_lines.proofs.decimal.Statement.{statement}
+use Rattle.text_lines.proofs.decimal.Tie as tie
 
 digit-requires : tie.Need-digit-requires
 digit-requires c κs = search needs

@@ -1,11 +1,11 @@
--- What only the contracts of private functions cite.
+-- What the contracts of functions within the code cite beside the rules.
 use mathlib.Core.Path.{_≡_}
 use mathlib.Core.List.{List}
 use Prim.Native.Nat.{ℕ, _+_, _/_}
 use lib.ListN.{length}
 use lib.Seq.{sets}
 use Rattle.tape.specs.Tape.{record-size}
-use Rattle.text.specs.Text.{longest}
+use Rattle.text_lines.specs.Lines.{longest}
 
 -- the most records of a tape that is run
 abbrev pub most-records : ℕ
