@@ -67,7 +67,7 @@ fn lone(m: Machine, mem: &mut [u64], e: Fields) -> Done
     let ended = run::run(m, mem, &record, &mut answers);
     let machine = ended.machine;
     Done {
-        answer: session::first_of(ended.answer, answers[0]),
+        answer: session_value::first_of(ended.answer, answers[0]),
         machine,
     }
 }
@@ -86,7 +86,7 @@ pub extern "C" fn naszeptan_step(m: RawMachine, mem: &mut [u64], e: Fields) -> R
     } = found
     else {
         return untouched(
-            session::first_of(naszeptan_valid(m, len), tape::number(found)),
+            session_value::first_of(naszeptan_valid(m, len), tape::number(found)),
             m,
         );
     };

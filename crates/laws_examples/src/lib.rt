@@ -1,1 +1,1 @@
-// Examples of the third demand: what each part of its condition is needed for, steps that meet it and are useless, leaks that it catches. Theorems, no code.
+// Examples of the third demand: what each part of its condition is needed for, steps that meet it and are useless. Theorems, no code.

@@ -30,8 +30,9 @@ use Rattle.laws_run.specs.Steps.{Stops}
 use Rattle.laws_run.proofs.Steps.{stop-refused}
 use Rattle.laws_run.proofs.Counts.{End, ends}
 use Rattle.session.specs.Session.{most-held, laid, session, holds, stops-at, place-right, right, number, Feeding, idle, wrapped, rest, behind, feed-on, feed}
-use Rattle.session.specs.declared.Session.{Session}
-use Rattle.session.proofs.Laws.{whole, ran, rest-small, number-zero, play-keeps, feed-keeps}
+use Rattle.session_value.specs.declared.Session.{Session}
+use Rattle.session_value.proofs.Laws.{number-zero}
+use Rattle.session_pieces.proofs.Laws.{whole, ran, rest-small, play-keeps, feed-keeps}
 use Rattle.laws_session.specs.Pieces.{SessionKept, NoSession, StopHolds}
 
 -- ---- the numbers that stop a session

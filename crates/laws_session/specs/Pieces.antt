@@ -13,7 +13,7 @@ use Rattle.tape.specs.Tape.{record-size}
 use Rattle.tape.specs.FirstBad.{found, bad-record}
 use Rattle.run.specs.Run.{Result, result, refused, reads, play, run}
 use Rattle.session.specs.Session.{most-held, session, holds, number, opened, Feeding, idle, onto, wrapped, feed, close}
-use Rattle.session.specs.declared.Session.{Session}
+use Rattle.session_value.specs.declared.Session.{Session}
 
 -- ---- one piece
 

@@ -15,7 +15,7 @@ use Rattle.tape.specs.FirstBad.{read-number, first-bad}
 use Rattle.tape.specs.declared.Found.{Found}
 use Rattle.tape.proofs.FirstBad.{up-to}
 use Rattle.run.specs.Run.{Result, result, reads, play}
-use Rattle.run.specs.declared.Ended.{Ended}
+use Rattle.records.specs.declared.Ended.{Ended}
 use Rattle.run.proofs.Pieces.{stop, part-good, part-play, play-up-to, all-answered, length-reads, sets-append}
 use Rattle.run.proofs.play.Statement.{statement}
 use Rattle.run.proofs.play.Tie as tie

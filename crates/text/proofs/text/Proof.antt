@@ -14,10 +14,12 @@ use Rattle.machine.specs.declared.Machine.{Machine}
 use Rattle.tape.specs.FirstBad.{bad-record}
 use Rattle.tape.specs.declared.Found.{Found}
 use Rattle.run.specs.Run.{Result, run}
-use Rattle.run.specs.declared.Ended.{Ended}
-use Rattle.text.specs.Inner.{Appended, most-records}
-use Rattle.text.specs.Text.{bad-line, end-line, lines, text}
-use Rattle.text.proofs.Laws.{alias, joined, from-start, read-back, lines-fit, answers-read}
+use Rattle.records.specs.declared.Ended.{Ended}
+use Rattle.text_lines.specs.Inner.{Appended, most-records}
+use Rattle.text_lines.specs.Lines.{bad-line, end-line, lines}
+use Rattle.text_lines.proofs.Laws.{alias, joined, from-start, read-back, lines-fit}
+use Rattle.text.specs.Text.{text}
+use Rattle.text.proofs.Laws.{answers-read}
 use Rattle.text.proofs.text.Statement.{statement}
 use Rattle.text.proofs.text.Tie as tie
 

@@ -1,0 +1,1 @@
+// Leaks that the third demand catches: variants of the step of which it is false. Theorems, no code.
