@@ -18,7 +18,7 @@ use Rattle.tape.specs.declared.Read.the-variants.{Record}
 use Rattle.tape.proofs.Laws.{begun-right}
 use Rattle.laws_round.specs.Round.{FieldsFit}
 use Rattle.laws_round.proofs.Round.{sized, fields-back}
-use Rattle.run.specs.Run.{goes-on, counted, one, play, reads, run}
+use Rattle.run_rules.specs.Run.{goes-on, counted, one, play, reads, run}
 use Rattle.host.specs.Inner.{left, lone}
 
 same : (b : Bool) (n : ℕ) → cond b n n ≡ n

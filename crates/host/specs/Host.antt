@@ -12,7 +12,7 @@ use Rattle.event.specs.declared.Fields.{Fields}
 use Rattle.tape.specs.Tape as tape
 use Rattle.tape.specs.declared.Read.{Read}
 use Rattle.tape.specs.declared.Read.the-variants.{Record, Refused}
-use Rattle.run.specs.Run as tape-run
+use Rattle.run_rules.specs.Run as tape-run
 use Rattle.crossing.specs.Crossing.{right, machine-of, raw-machine}
 use Rattle.crossing.specs.declared.RawMachine.{RawMachine}
 use Rattle.host.specs.Failed.{failed}

@@ -8,7 +8,7 @@ use Rattle.machine.specs.declared.Machine.{Machine}
 use Rattle.event.specs.declared.Fields.{Fields}
 use Rattle.tape.specs.Tape.{bytes}
 use Rattle.step_rules.specs.Step.{Outcome, outcome}
-use Rattle.run.specs.Run.{Result, run}
+use Rattle.run_rules.specs.Run.{Result, run}
 
 -- what a run of one record tells: the number that ended it, else its record's answer, which stands in a buffer of one place
 abbrev pub told : Result → ℕ

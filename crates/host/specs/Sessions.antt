@@ -5,10 +5,10 @@ use mathlib.Core.List.{List, []}
 use lib.ListN.{length, replicate}
 use Rattle.crossing.specs.Crossing.{right, machine-of, raw-machine}
 use Rattle.crossing.specs.declared.RawMachine.{RawMachine}
-use Rattle.records.specs.declared.Ended.{Ended}
-use Rattle.session.specs.Session as session
-use Rattle.session_value.specs.declared.Session.{Session}
-use Rattle.session_value.specs.declared.Fed.{Fed}
+use Rattle.run_rules.specs.declared.Ended.{Ended}
+use Rattle.session_rules.specs.Session as session
+use Rattle.session_rules.specs.declared.Session.{Session}
+use Rattle.session_rules.specs.declared.Fed.{Fed}
 use Rattle.host.specs.Host.{number}
 use Rattle.host.specs.declared.RawEnded.{RawEnded}
 use Rattle.host.specs.declared.RawSession.{RawSession}

@@ -31,9 +31,9 @@ use Rattle.laws_round.specs.Round.{Bytes}
 use Rattle.machine.specs.Valid.{machine-number}
 use Rattle.machine.specs.declared.Machine.{Machine}
 use Rattle.machine.proofs.Validity.{valid-passes}
-use Rattle.run.specs.Run as tape-run
-use Rattle.run.specs.Run.{Result, refused, play, run}
-use Rattle.run.proofs.Laws.{run-bad}
+use Rattle.run_rules.specs.Run as tape-run
+use Rattle.run_rules.specs.Run.{Result, refused, play, run}
+use Rattle.run_rules.proofs.Runs.{run-bad}
 use Rattle.laws_editions.specs.Promises.{ReadsWritten, WritesRead, OneRecord, KeepsRest, KeepsPast, SameEvents, ThereAndBack, Begins, OtherRefused, TwoNotRun, reads, Replays}
 use Rattle.laws_editions.proofs.Layouts.{record-read, record-bytes, record-has, record-fits}
 

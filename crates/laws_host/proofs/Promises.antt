@@ -20,7 +20,7 @@ use Rattle.tape.specs.declared.Read.{Read}
 use Rattle.tape.specs.declared.Read.the-variants.{Record, Refused}
 use Rattle.laws_round.specs.Round.{FieldsFit, Bytes}
 use Rattle.laws_round.proofs.Round.{written, taken-kept, reads-written, writes-read, keeps-rest, of-kind-meant, one-meaning, not-0}
-use Rattle.run.specs.Run.{goes-on}
+use Rattle.run_rules.specs.Run.{goes-on}
 use Rattle.laws_run.proofs.Steps as steps
 use Rattle.crossing.specs.Crossing.{right, machine-of}
 use Rattle.crossing.specs.declared.RawMachine.{RawMachine}

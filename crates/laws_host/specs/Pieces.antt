@@ -8,7 +8,7 @@ use Rattle.base.specs.Limits.{most-threads}
 use Rattle.machine.specs.Valid.{sized}
 use Rattle.crossing.specs.Crossing.{right, machine-of}
 use Rattle.crossing.specs.declared.RawMachine.{RawMachine}
-use Rattle.session_value.specs.declared.Session.{Session}
+use Rattle.session_rules.specs.declared.Session.{Session}
 use Rattle.host.specs.Sessions.{session-of, raw-session, no-session, open-raw, refused-feeding, feed, close}
 use Rattle.host.specs.declared.RawSession.{RawSession}
 

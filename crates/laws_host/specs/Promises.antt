@@ -15,7 +15,7 @@ use Rattle.step_rules.specs.declared.Done.{Done}
 use Rattle.tape.specs.Tape.{record-size}
 use Rattle.tape.specs.declared.Read.the-variants.{Record}
 use Rattle.laws_round.specs.Round.{FieldsFit, Bytes}
-use Rattle.run.specs.Run.{goes-on}
+use Rattle.run_rules.specs.Run.{goes-on}
 use Rattle.crossing.specs.Crossing.{right, machine-of}
 use Rattle.host.specs.Failed.{fails, failed}
 use Rattle.host.specs.Host.{outcome, event-read, step, result, run, read, write-answer, write}

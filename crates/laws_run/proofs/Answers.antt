@@ -31,7 +31,7 @@ use Rattle.thread.specs.declared.turns.Turn.the-variants.{Bad, Fails, To}
 use Rattle.step_rules.specs.Effects.{effect}
 use Rattle.step_rules.proofs.Cases.{effect-by}
 use Rattle.power_rules.specs.declared.Did.{Did}
-use Rattle.run.specs.Run.{goes-on}
+use Rattle.run_rules.specs.Run.{goes-on}
 
 abbrev Done : Did → Type 0
 Done d = goes-on (d .answer) ≡ true

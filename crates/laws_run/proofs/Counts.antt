@@ -14,10 +14,10 @@ use Rattle.machine.proofs.Validity.{valid-passes}
 use Rattle.tape.specs.Tape.{record-size, read, record-at}
 use Rattle.tape.specs.FirstBad.{read-number, first-bad, bad-record}
 use Rattle.tape.proofs.FirstBad.{each-good, first-found, whole-length, all-judged}
-use Rattle.run.specs.Run.{Result, in-front, reads, one, play, run}
+use Rattle.run_rules.specs.Run.{Result, in-front, reads, one, play, run}
 use Rattle.laws_run.specs.Steps.{Stops, EndsFirst, BadRefused, AllRecords, FirstBad, OneAnswerEach}
-use Rattle.records.proofs.Laws.{one-answer, play-stops, play-goes}
-use Rattle.run.proofs.Laws.{run-bad, run-plays}
+use Rattle.run_rules.proofs.Records.{one-answer, play-stops, play-goes}
+use Rattle.run_rules.proofs.Runs.{run-bad, run-plays}
 use Rattle.laws_run.proofs.Steps.{one-stops}
 
 -- the end of a run over n records from record k on, of which c are counted

@@ -20,9 +20,9 @@ use Rattle.tape.specs.Tape.{record-size, read, record-at}
 use Rattle.tape.specs.FirstBad.{found, bad-record}
 use Rattle.tape.specs.declared.Read.{Read}
 use Rattle.tape.specs.declared.Read.the-variants.{Record, Refused}
-use Rattle.run.specs.Run.{Result, refused, in-front, goes-on, reads, counted, one, play, run}
+use Rattle.run_rules.specs.Run.{Result, refused, in-front, goes-on, reads, counted, one, play, run}
 use Rattle.laws_run.specs.Steps.{fed, events, all-go, RunIsSteps, StopChangesNothing, CountedWent, Stops}
-use Rattle.records.proofs.Laws.{uncounted, play-stops, play-goes}
+use Rattle.run_rules.proofs.Records.{uncounted, play-stops, play-goes}
 use Rattle.laws_run.proofs.Answers.{effect-done}
 
 -- an event that is not refused goes on

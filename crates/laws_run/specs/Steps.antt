@@ -15,7 +15,7 @@ use Rattle.tape.specs.Tape.{record-size, read, number, record-at}
 use Rattle.tape.specs.FirstBad.{bad-record}
 use Rattle.tape.specs.declared.Read.{Read}
 use Rattle.tape.specs.declared.Read.the-variants.{Record, Refused}
-use Rattle.run.specs.Run.{Result, refused, goes-on, reads, run}
+use Rattle.run_rules.specs.Run.{Result, refused, goes-on, reads, run}
 
 -- the event of a record, if it is one
 abbrev pub fed : Read → List Fed

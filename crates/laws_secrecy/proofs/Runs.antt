@@ -23,9 +23,9 @@ use Rattle.tape.specs.Tape.{record-size, read, record-at}
 use Rattle.tape.specs.FirstBad.{bad-record}
 use Rattle.tape.specs.declared.Read.{Read}
 use Rattle.tape.specs.declared.Read.the-variants.{Record, Refused}
-use Rattle.run.specs.Run.{Result, result, in-front, goes-on, reads, counted, one, play, run}
+use Rattle.run_rules.specs.Run.{Result, result, in-front, goes-on, reads, counted, one, play, run}
 use Rattle.laws_run.specs.Steps.{events}
-use Rattle.run.proofs.Laws.{run-bad, run-plays}
+use Rattle.run_rules.proofs.Runs.{run-bad, run-plays}
 use Rattle.laws_run.proofs.Steps.{stop-refused}
 use Rattle.laws_run.proofs.Counts.{ends-first}
 use Rattle.laws_secrecy.specs.Secrecy.{Alike, Agree, tells, allowed, Until}

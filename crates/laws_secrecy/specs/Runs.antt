@@ -8,7 +8,7 @@ use lib.ListN.{length}
 use Rattle.machine.specs.Valid.{valid}
 use Rattle.step_rules.specs.Step.{outcome, step}
 use Rattle.machine.specs.declared.Machine.{Machine}
-use Rattle.run.specs.Run.{Result, reads, run}
+use Rattle.run_rules.specs.Run.{Result, reads, run}
 use Rattle.laws_run.specs.Steps.{events}
 use Rattle.laws_secrecy.specs.Secrecy.{Alike, Until}
 

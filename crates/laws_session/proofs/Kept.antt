@@ -25,14 +25,14 @@ use Rattle.step_rules.proofs.Steps.{step-refused}
 use Rattle.tape.specs.Tape.{record-size, first-byte, byte, record-at, fields-at, fixed-zero, unused-clear, judged, of-kind, read}
 use Rattle.tape.specs.declared.Read.{Read}
 use Rattle.tape.specs.declared.Read.the-variants.{Record, Refused}
-use Rattle.run.specs.Run.{goes-on, reads}
+use Rattle.run_rules.specs.Run.{goes-on, reads}
 use Rattle.laws_run.specs.Steps.{Stops}
 use Rattle.laws_run.proofs.Steps.{stop-refused}
 use Rattle.laws_run.proofs.Counts.{End, ends}
-use Rattle.session.specs.Session.{most-held, laid, session, holds, stops-at, place-right, right, number, Feeding, idle, wrapped, rest, behind, feed-on, feed}
-use Rattle.session_value.specs.declared.Session.{Session}
-use Rattle.session_value.proofs.Laws.{number-zero}
-use Rattle.session_pieces.proofs.Laws.{whole, ran, rest-small, play-keeps, feed-keeps}
+use Rattle.session_rules.specs.Session.{most-held, laid, session, holds, stops-at, place-right, right, number, Feeding, idle, wrapped, rest, behind, feed-on, feed}
+use Rattle.session_rules.specs.declared.Session.{Session}
+use Rattle.session_rules.proofs.Value.{number-zero}
+use Rattle.session_rules.proofs.Feeding.{whole, ran, rest-small, play-keeps, feed-keeps}
 use Rattle.laws_session.specs.Pieces.{SessionKept, NoSession, StopHolds}
 
 -- ---- the numbers that stop a session

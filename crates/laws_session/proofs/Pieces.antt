@@ -12,11 +12,11 @@ use Rattle.base.specs.Below.{all-below}
 use Rattle.base.proofs.Below.{and-left, and-right, all-at}
 use Rattle.machine.specs.Valid.{first-of}
 use Rattle.tape.specs.Tape.{record-size}
-use Rattle.run.specs.Run.{reads, play}
-use Rattle.session.specs.Session.{most-held, laid, session, holds, stops-at, place-right, right, number, Feeding, idle, onto, wrapped, did, feed-on, feed}
-use Rattle.session_value.specs.declared.Session.{Session}
-use Rattle.session_value.proofs.Laws.{first-zero, number-zero, right-held}
-use Rattle.session_pieces.proofs.Laws.{then-feed, feed-join}
+use Rattle.run_rules.specs.Run.{reads, play}
+use Rattle.session_rules.specs.Session.{most-held, laid, session, holds, stops-at, place-right, right, number, Feeding, idle, onto, wrapped, did, feed-on, feed}
+use Rattle.session_rules.specs.declared.Session.{Session}
+use Rattle.session_rules.proofs.Value.{first-zero, number-zero, right-held}
+use Rattle.session_rules.proofs.Feeding.{then-feed, feed-join}
 use Rattle.laws_session.specs.Pieces.{feeds, FeedsJoin, CuttingsAgree, RestUnread, EmptyPiece}
 use Rattle.laws_session.proofs.Kept.{feed-goes, feed-idle, stop-holds, on-kept, session-valid}
 

@@ -15,14 +15,14 @@ use Rattle.tape.specs.Tape.{record-size}
 use Rattle.tape.specs.FirstBad.{found, bad-record}
 use Rattle.tape.specs.declared.Read.{Read}
 use Rattle.tape.proofs.FirstBad.{whole-length}
-use Rattle.run.specs.Run.{Result, result, refused, in-front, reads, one, play, run}
-use Rattle.records.specs.declared.Ended.{Ended}
-use Rattle.records.proofs.Laws.{one-index}
-use Rattle.run.proofs.Laws.{run-unready, run-plays}
-use Rattle.run.proofs.Pieces.{reads-left}
-use Rattle.session.specs.Session.{session, number, opened, Feeding, wrapped, rest, behind, did, feed-on, feed, ended, last-answer, close}
-use Rattle.session_value.specs.declared.Session.{Session}
-use Rattle.session_pieces.proofs.Laws.{ran, how}
+use Rattle.run_rules.specs.Run.{Result, result, refused, in-front, reads, one, play, run}
+use Rattle.run_rules.specs.declared.Ended.{Ended}
+use Rattle.run_rules.proofs.Records.{one-index}
+use Rattle.run_rules.proofs.Runs.{run-unready, run-plays}
+use Rattle.run_rules.proofs.Pieces.{reads-left}
+use Rattle.session_rules.specs.Session.{session, number, opened, Feeding, wrapped, rest, behind, did, feed-on, feed, ended, last-answer, close}
+use Rattle.session_rules.specs.declared.Session.{Session}
+use Rattle.session_rules.proofs.Feeding.{ran, how}
 use Rattle.laws_session.specs.Pieces.{ragged, played, run-as-read, SessionIsRun, GoodTapeSame, cut-short, UnfinishedUnread}
 use Rattle.laws_session.proofs.Kept.{session-right, passes, feed-goes, no-session, on-kept}
 use Rattle.laws_session.proofs.Pieces.{feeds-join}

@@ -11,9 +11,9 @@ use Rattle.machine.specs.Valid.{machine-number, first-of}
 use Rattle.machine.specs.declared.Machine.{Machine}
 use Rattle.tape.specs.Tape.{record-size}
 use Rattle.tape.specs.FirstBad.{found, bad-record}
-use Rattle.run.specs.Run.{Result, result, refused, reads, play, run}
-use Rattle.session.specs.Session.{most-held, session, holds, number, opened, Feeding, idle, onto, wrapped, feed, close}
-use Rattle.session_value.specs.declared.Session.{Session}
+use Rattle.run_rules.specs.Run.{Result, result, refused, reads, play, run}
+use Rattle.session_rules.specs.Session.{most-held, session, holds, number, opened, Feeding, idle, onto, wrapped, feed, close}
+use Rattle.session_rules.specs.declared.Session.{Session}
 
 -- ---- one piece
 

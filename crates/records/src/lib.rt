@@ -8,8 +8,8 @@ ghost use Rattle.machine.specs.Valid.{valid};
 ghost use Rattle.tape.specs.Tape.{record-size, read};
 ghost use Rattle.tape.specs.FirstBad.{read-number, first-bad};
 ghost use Rattle.rows.specs.Rows.{rows, machine-of};
-ghost use Rattle.records.specs.Inner.{filled};
-ghost use Rattle.records.specs.Records.{result, goes-on, reads, one, play};
+ghost use Rattle.run_rules.specs.Inner.{filled};
+ghost use Rattle.run_rules.specs.Records.{result, goes-on, reads, one, play};
 use base::CR_FIELDS;
 use base::GPRS;
 use base::PLACES;
@@ -21,15 +21,6 @@ use rows::HEAD;
 use rows::VALUES;
 use tape::RECORD_SIZE;
 use tape::Read;
-
-// The answer that ended the run (0 at the tape's end), how many records were done, the index of the record that the answer is about, and the
-// machine after exactly the records done.
-pub struct Ended {
-    pub answer: u8,
-    pub count: usize,
-    pub index: usize,
-    pub machine: Machine,
-}
 
 // The run goes on after 0, 20 and 21.
 fn goes_on(answer: u8) -> bool

@@ -7,7 +7,7 @@ ghost use lib.Seq.{sets};
 ghost use Rattle.machine.specs.Valid.{valid};
 ghost use Rattle.tape.specs.Tape.{record-size};
 ghost use Rattle.tape.specs.FirstBad.{read-number, first-bad};
-ghost use Rattle.run.specs.Run.{reads, play, run};
+ghost use Rattle.run_rules.specs.Run.{reads, play, run};
 use base::CR_FIELDS;
 use base::GPRS;
 use base::PLACES;
@@ -15,10 +15,10 @@ use base::THREADS;
 use base::answer;
 use buffer::put;
 use machine::Machine;
-use records::Ended;
 use records::records;
 use rows::HEAD;
 use rows::VALUES;
+use run_rules::Ended;
 use tape::RECORD_SIZE;
 
 // A tape without a bad record on a machine that is valid: laid into rows, run there, and lifted out.

@@ -8,30 +8,12 @@ ghost use lib.ListN.{length, take};
 ghost use Rattle.base.specs.Below.{all-below};
 ghost use Rattle.machine.specs.Valid.{first-of};
 ghost use Rattle.tape.specs.Tape.{record-size};
-ghost use Rattle.session_value.specs.Value.{most-held, laid, stops-at, place-right, right, number, last-answer};
+ghost use Rattle.session_rules.specs.Value.{most-held, laid, stops-at, place-right, right, number, last-answer};
 use base::answer;
 use machine::Machine;
+use session_rules::HELD;
+use session_rules::Session;
 use tape::RECORD_SIZE;
-
-// The most bytes that are held. specs/Value.antt has the same number for the definitions.
-pub const HELD: usize = 15;
-
-// A session, kept by the caller between the pieces: the machine, the count of records done (modulo 2^64), how many bytes of an unfinished record are
-// held, the answer (0 until a record stopped it), and the held bytes, with zeros behind them.
-pub struct Session {
-    pub machine: Machine,
-    pub count: usize,
-    pub held: usize,
-    pub answer: u8,
-    pub bytes: [u8; HELD],
-}
-
-// What feeding a piece gives: an answer, how many records it finished, the one that stopped it among them, and the session behind it.
-pub struct Fed {
-    pub answer: u8,
-    pub finished: usize,
-    pub session: Session,
-}
 
 // A session stops at these answers.
 fn stops_at(answer: u8) -> bool

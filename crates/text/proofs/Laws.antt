@@ -17,7 +17,7 @@ use Rattle.machine.specs.Machine.{fresh, fresh-thread, fresh-memory}
 use Rattle.machine.specs.Valid as valid
 use Rattle.tape.specs.Tape.{record-size}
 use Rattle.tape.specs.FirstBad.{bad-record}
-use Rattle.run.specs.Run.{Result, run}
+use Rattle.run_rules.specs.Run.{Result, run}
 use Rattle.laws_run.specs.Steps.{Answered}
 use Rattle.laws_run.proofs.Counts.{one-answer-each}
 use Rattle.text_lines.specs.Lines.{longest}

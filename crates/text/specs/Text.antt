@@ -6,7 +6,7 @@ use lib.Dec.{eqb, ltb}
 use lib.ListN.{length}
 use Rattle.machine.specs.Machine.{fresh, fresh-memory}
 use Rattle.tape.specs.FirstBad.{bad-record}
-use Rattle.run.specs.Run.{run}
+use Rattle.run_rules.specs.Run.{run}
 use Rattle.text_lines.specs.Lines.{longest, long, bad-line, end-line, lines}
 
 -- input that is too long is not run, and neither is a tape with a bad record, whatever stands before it (rules P2 and P3); else each record

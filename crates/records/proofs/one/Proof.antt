@@ -7,8 +7,8 @@ use Rattle.rows.specs.Rows.{rows, machine-of}
 use Rattle.tape.specs.Tape.{number}
 use Rattle.tape.specs.declared.Read.{Read}
 use Rattle.step_rules.specs.Step.{Outcome, step}
-use Rattle.records.specs.Records.{result, goes-on, one}
-use Rattle.records.proofs.Laws.{is-counted, not-counted}
+use Rattle.run_rules.specs.Records.{result, goes-on, one}
+use Rattle.run_rules.proofs.Records.{is-counted, not-counted}
 use borrow.Author.Needs.{needs}
 use Rattle.records.proofs.one.Statement.{statement}
 use Rattle.records.proofs.one.Tie as tie

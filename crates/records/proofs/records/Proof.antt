@@ -15,9 +15,9 @@ use Rattle.tape.specs.Tape.{read, record-at}
 use Rattle.tape.specs.FirstBad.{read-number}
 use Rattle.tape.proofs.Laws.{part-is}
 use Rattle.tape.proofs.FirstBad.{each-good}
-use Rattle.records.specs.Inner.{filled}
-use Rattle.records.specs.Records.{Result, result, reads, one, play}
-use Rattle.records.proofs.Laws.{play-none, fills-stops, fills-goes, one-index, one-keeps}
+use Rattle.run_rules.specs.Inner.{filled}
+use Rattle.run_rules.specs.Records.{Result, result, reads, one, play}
+use Rattle.run_rules.proofs.Records.{play-none, fills-stops, fills-goes, one-index, one-keeps}
 use Rattle.records.proofs.records.Statement.{statement}
 use Rattle.records.proofs.records.Tie as tie
 

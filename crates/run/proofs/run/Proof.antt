@@ -11,8 +11,8 @@ use Rattle.machine.proofs.Validity.{passes-valid}
 use Rattle.tape.specs.FirstBad.{bad-record}
 use Rattle.tape.specs.declared.Found.{Found}
 use Rattle.tape.proofs.FirstBad.{all-judged}
-use Rattle.run.specs.Run.{refused}
-use Rattle.run.proofs.Laws.{run-unready, run-bad, run-plays}
+use Rattle.run_rules.specs.Run.{refused}
+use Rattle.run_rules.proofs.Runs.{run-unready, run-bad, run-plays}
 use Rattle.run.proofs.run.Statement.{statement}
 use Rattle.run.proofs.run.Tie as tie
 

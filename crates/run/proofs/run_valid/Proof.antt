@@ -7,8 +7,8 @@ use Rattle.machine.specs.Valid.{valid}
 use Rattle.machine.specs.declared.Machine.{Machine}
 use Rattle.rows.specs.Rows.{Rows, rows, machine-of}
 use Rattle.rows_lift.proofs.Threads.{clean}
-use Rattle.records.specs.Inner.{filled}
-use Rattle.run.specs.Run.{Result, result, reads, play}
+use Rattle.run_rules.specs.Inner.{filled}
+use Rattle.run_rules.specs.Run.{Result, result, reads, play}
 use borrow.Author.Needs.{needs}
 use Rattle.run.proofs.run_valid.Statement.{statement}
 use Rattle.run.proofs.run_valid.Tie as tie

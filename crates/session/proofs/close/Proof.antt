@@ -4,7 +4,7 @@ use mathlib.Core.Bool.{Bool, cond}
 use Prim.Native.Nat.{ℕ}
 use lib.Dec.{eqb}
 use borrow.Author.Tests.{eq-eqb, ne-eqb}
-use Rattle.session.specs.Session.{number, ended, last-answer, close}
+use Rattle.session_rules.specs.Session.{number, ended, last-answer, close}
 use borrow.Author.Needs.{needs}
 use Rattle.session.proofs.close.Statement.{statement}
 use Rattle.session.proofs.close.Tie as tie

@@ -10,9 +10,9 @@ use lib.Seq.{sets}
 use borrow.Author.Tests.{eq-eqb, ne-eqb}
 use Rattle.machine.specs.Valid.{valid, first-of}
 use Rattle.machine.proofs.Validity.{passes-valid}
-use Rattle.session.specs.Session.{holds, number, right, idle, Feeding, did, feed-on, feed}
-use Rattle.session_value.proofs.Laws.{first-zero, number-zero, right-held}
-use Rattle.session_pieces.proofs.Laws.{ran}
+use Rattle.session_rules.specs.Session.{holds, number, right, idle, Feeding, did, feed-on, feed}
+use Rattle.session_rules.proofs.Value.{first-zero, number-zero, right-held}
+use Rattle.session_rules.proofs.Feeding.{ran}
 use borrow.Author.Needs.{needs}
 use Rattle.session.proofs.feed.Statement.{statement}
 use Rattle.session.proofs.feed.Tie as tie

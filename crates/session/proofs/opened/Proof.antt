@@ -1,6 +1,6 @@
 -- `session::opened` meets its contract.
 use mathlib.Core.List.{[]}
-use Rattle.session.specs.Session.{session, opened}
+use Rattle.session_rules.specs.Session.{session, opened}
 use borrow.Author.Needs.{needs}
 use Rattle.session.proofs.opened.Statement.{statement}
 use Rattle.session.proofs.opened.Tie as tie

@@ -6,8 +6,8 @@ use Prim.Native.Nat.{ℕ, _+_}
 use lib.Dec.{eqb}
 use lib.ListN.{length}
 use borrow.Author.Tests.{eq-eqb, ne-eqb}
-use Rattle.session_value.specs.Value.{session}
-use Rattle.session_pieces.specs.Feeding.{wrapped}
+use Rattle.session_rules.specs.Value.{session}
+use Rattle.session_rules.specs.Feeding.{wrapped}
 use borrow.Author.Needs.{needs}
 use Rattle.session_pieces.proofs.behind.Statement.{statement}
 use Rattle.session_pieces.proofs.behind.Tie as tie

@@ -6,10 +6,10 @@ use Prim.Native.Nat.{ℕ, _+_, _*_, _/_, _≤_}
 use native.Mathlib.Omega.{arith}
 use lib.Dec.{eqb, ltb}
 use lib.ListN.{length, drop, length-drop}
-use Rattle.records.specs.declared.Ended.{Ended}
-use Rattle.session_value.specs.Value.{session}
-use Rattle.session_pieces.specs.Feeding.{wrapped, rest}
-use Rattle.session_pieces.proofs.Laws.{ran, finished-is, rest-part}
+use Rattle.run_rules.specs.declared.Ended.{Ended}
+use Rattle.session_rules.specs.Value.{session}
+use Rattle.session_rules.specs.Feeding.{wrapped, rest}
+use Rattle.session_rules.proofs.Feeding.{ran, finished-is, rest-part}
 use borrow.Author.Needs.{needs}
 use Rattle.session_pieces.proofs.did.Statement.{statement}
 use Rattle.session_pieces.proofs.did.Tie as tie

@@ -3,7 +3,7 @@ use mathlib.Core.Path.{_≡_, sym, ap, _∙_}
 use mathlib.Core.List.{List, _++_}
 use Prim.Native.Nat.{ℕ}
 use lib.ListN.{length, take, drop}
-use Rattle.session_pieces.proofs.Laws.{ran, sets-none, sets-next}
+use Rattle.session_rules.proofs.Feeding.{ran, sets-none, sets-next}
 use borrow.Author.Needs.{needs}
 use Rattle.session_pieces.proofs.did_next.Statement.{statement}
 use Rattle.session_pieces.proofs.did_next.Tie as tie

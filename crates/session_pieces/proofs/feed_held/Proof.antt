@@ -9,12 +9,12 @@ use lib.ListN.{length, take, drop, length-append, length-drop, take-append-drop}
 use lib.Seq.{sets, length-take-le, take-all}
 use borrow.Author.Tests.{eq-eqb, ne-eqb}
 use Rattle.machine.specs.Valid.{valid}
-use Rattle.session_value.specs.declared.Session.{Session}
-use Rattle.session_value.specs.declared.Fed.{Fed}
-use Rattle.session_value.specs.Value.{most-held, holds}
-use Rattle.session_pieces.specs.Feeding.{Feeding, onto, did, feed-on}
-use Rattle.run.proofs.Pieces.{sets-append}
-use Rattle.session_pieces.proofs.Laws.{ran, answers-few, then-feed, feed-join, filled-up, feed-keeps}
+use Rattle.session_rules.specs.declared.Session.{Session}
+use Rattle.session_rules.specs.declared.Fed.{Fed}
+use Rattle.session_rules.specs.Value.{most-held, holds}
+use Rattle.session_rules.specs.Feeding.{Feeding, onto, did, feed-on}
+use Rattle.run_rules.proofs.Pieces.{sets-append}
+use Rattle.session_rules.proofs.Feeding.{ran, answers-few, then-feed, feed-join, filled-up, feed-keeps}
 use borrow.Author.Needs.{needs}
 use Rattle.session_pieces.proofs.feed_held.Statement.{statement}
 use Rattle.session_pieces.proofs.feed_held.Tie as tie

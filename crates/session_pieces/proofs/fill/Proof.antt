@@ -5,9 +5,9 @@ use Prim.Native.Nat.{ℕ, _+_, _≤_}
 use native.Mathlib.Omega.{arith}
 use lib.ListN.{length, take, length-append}
 use lib.Seq.{sets, length-take-le}
-use Rattle.session_value.specs.Value.{holds}
-use Rattle.session_pieces.specs.Feeding.{did, feed-on}
-use Rattle.session_pieces.proofs.Laws.{ran}
+use Rattle.session_rules.specs.Value.{holds}
+use Rattle.session_rules.specs.Feeding.{did, feed-on}
+use Rattle.session_rules.proofs.Feeding.{ran}
 use borrow.Author.Needs.{needs}
 use Rattle.session_pieces.proofs.fill.Statement.{statement}
 use Rattle.session_pieces.proofs.fill.Tie as tie

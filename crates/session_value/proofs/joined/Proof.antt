@@ -5,7 +5,7 @@ use Prim.Native.Nat.{ℕ, _+_, _≤_}
 use native.Mathlib.Omega.{arith}
 use lib.ListN.{length, take}
 use lib.Seq.{sets, length-take-le}
-use Rattle.session_value.proofs.Laws.{laid-behind}
+use Rattle.session_rules.proofs.Value.{laid-behind}
 use borrow.Author.Needs.{needs}
 use Rattle.session_value.proofs.joined.Statement.{statement}
 use Rattle.session_value.proofs.joined.Tie as tie

@@ -1,6 +1,6 @@
 -- `session_value::laid` meets its contract.
 use mathlib.Core.Path.{_∙_}
-use Rattle.session_value.proofs.Laws.{laid-is}
+use Rattle.session_rules.proofs.Value.{laid-is}
 use borrow.Author.Needs.{needs}
 use Rattle.session_value.proofs.laid.Statement.{statement}
 use Rattle.session_value.proofs.laid.Tie as tie

@@ -3,7 +3,7 @@ use mathlib.Core.Path.{sym, ap, _∙_}
 use mathlib.Core.Bool.{Bool, cond}
 use Prim.Native.Nat.{ℕ}
 use Rattle.machine.specs.Valid.{machine-number, first-of}
-use Rattle.session_value.specs.Value.{number}
+use Rattle.session_rules.specs.Value.{number}
 use borrow.Author.Needs.{needs}
 use Rattle.session_value.proofs.number.Statement.{statement}
 use Rattle.session_value.proofs.number.Tie as tie

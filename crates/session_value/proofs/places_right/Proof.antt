@@ -6,7 +6,7 @@ use borrow.Author.Needs.{needs}
 use borrow.Author.Tests.{not-true, not-false}
 use Rattle.base.specs.Below.{all-below}
 use Rattle.base.proofs.Below.{all-fails, all-passes, all-passed}
-use Rattle.session_value.specs.Value.{most-held, place-right}
+use Rattle.session_rules.specs.Value.{most-held, place-right}
 use Rattle.session_value.proofs.places_right.Statement.{statement}
 use Rattle.session_value.proofs.places_right.Tie as tie
 

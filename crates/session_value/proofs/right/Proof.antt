@@ -1,7 +1,7 @@
 -- `session_value::right` meets its contract.
 use mathlib.Core.Bool.{_&&_, _||_}
 use lib.Dec.{eqb, leb}
-use Rattle.session_value.specs.Value.{right}
+use Rattle.session_rules.specs.Value.{right}
 use borrow.Author.Needs.{needs}
 use Rattle.session_value.proofs.right.Statement.{statement}
 use Rattle.session_value.proofs.right.Tie as tie

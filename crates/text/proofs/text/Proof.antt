@@ -13,8 +13,8 @@ use Rattle.machine.specs.Machine.{fresh, fresh-memory}
 use Rattle.machine.specs.declared.Machine.{Machine}
 use Rattle.tape.specs.FirstBad.{bad-record}
 use Rattle.tape.specs.declared.Found.{Found}
-use Rattle.run.specs.Run.{Result, run}
-use Rattle.records.specs.declared.Ended.{Ended}
+use Rattle.run_rules.specs.Run.{Result, run}
+use Rattle.run_rules.specs.declared.Ended.{Ended}
 use Rattle.text_lines.specs.Inner.{Appended, most-records}
 use Rattle.text_lines.specs.Lines.{bad-line, end-line, lines}
 use Rattle.text_lines.proofs.Laws.{alias, joined, from-start, read-back, lines-fit}

@@ -4,9 +4,9 @@ use mathlib.Core.Bool.{Bool, cond}
 use Prim.Native.Nat.{ℕ}
 use Rattle.base.proofs.Below.{flag-true, flag-false}
 use Rattle.crossing.specs.Crossing.{raw-machine}
-use Rattle.records.specs.declared.Ended.{Ended}
-use Rattle.session.specs.Session as session
-use Rattle.session_value.specs.declared.Session.{Session}
+use Rattle.run_rules.specs.declared.Ended.{Ended}
+use Rattle.session_rules.specs.Session as session
+use Rattle.session_rules.specs.declared.Session.{Session}
 use Rattle.host.specs.Host.{number}
 use Rattle.host.specs.declared.RawEnded.{RawEnded}
 use Rattle.host.specs.Sessions.{session-of, crossed-ended, close}

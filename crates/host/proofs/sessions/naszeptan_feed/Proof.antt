@@ -7,8 +7,8 @@ use lib.ListN.{length}
 use lib.Seq.{sets}
 use Rattle.base.proofs.Below.{flag-true, flag-false}
 use Rattle.crossing.specs.Crossing.{right}
-use Rattle.session.specs.Session as session
-use Rattle.session_value.specs.declared.Session.{Session}
+use Rattle.session_rules.specs.Session as session
+use Rattle.session_rules.specs.declared.Session.{Session}
 use Rattle.host.specs.Host.{number}
 use Rattle.host.specs.Sessions.{session-of, raw-session, RawFeeding, crossed-fed, crossed-feeding, refused-feeding, feed}
 use borrow.Author.Needs.{needs}

@@ -3,7 +3,7 @@ use mathlib.Core.Path.{_≡_, sym, ap, _∙_}
 use mathlib.Core.Bool.{Bool, cond}
 use Prim.Native.Nat.{ℕ}
 use Rattle.crossing.specs.Crossing.{machine-of}
-use Rattle.session.specs.Session.{opened}
+use Rattle.session_rules.specs.Session.{opened}
 use Rattle.host.specs.Host.{number}
 use Rattle.host.specs.Sessions.{raw-session, no-session, open-raw}
 use borrow.Author.Needs.{needs}

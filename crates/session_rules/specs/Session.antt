@@ -6,12 +6,12 @@ use lib.Dec.{eqb}
 use lib.ListN.{length}
 use Rattle.machine.specs.Valid.{machine-number, first-of}
 use Rattle.machine.specs.declared.Machine.{Machine}
-use Rattle.records.specs.declared.Ended.{Ended}
-use Rattle.session_value.specs.declared.Session.{Session}
-pub use Rattle.session_value.specs.Value.{most-held, laid, session, holds, stops-at, place-right, last-answer}
-unfoldable pub use Rattle.session_value.specs.Value.{right, number}
-pub use Rattle.session_pieces.specs.Feeding.{Feeding, onto, wrapped, rest, behind, did}
-unfoldable pub use Rattle.session_pieces.specs.Feeding.{feed-on}
+use Rattle.run_rules.specs.declared.Ended.{Ended}
+use Rattle.session_rules.specs.declared.Session.{Session}
+pub use Rattle.session_rules.specs.Value.{most-held, laid, session, holds, stops-at, place-right, last-answer}
+unfoldable pub use Rattle.session_rules.specs.Value.{right, number}
+pub use Rattle.session_rules.specs.Feeding.{Feeding, onto, wrapped, rest, behind, did}
+unfoldable pub use Rattle.session_rules.specs.Feeding.{feed-on}
 
 -- ---- rule Q3
 

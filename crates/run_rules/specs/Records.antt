@@ -9,7 +9,7 @@ use Rattle.machine.specs.declared.Machine.{Machine}
 use Rattle.tape.specs.Tape.{read, record-at}
 use Rattle.tape.specs.declared.Read.{Read}
 use Rattle.tape.specs.declared.Read.the-variants.{Record, Refused}
-use Rattle.records.specs.declared.Ended.{Ended}
+use Rattle.run_rules.specs.declared.Ended.{Ended}
 
 -- what a run leaves: its answer, count and index with the machine, memory, and the answers of the events done, the stopping one's too
 pub record Result : Type 0 where

@@ -16,8 +16,8 @@ use Rattle.tape.specs.Tape.{read, record-at}
 use Rattle.tape.specs.declared.Read.{Read}
 use Rattle.tape.specs.declared.Read.the-variants.{Record, Refused}
 use Rattle.laws_keeping.proofs.Keeping.{keeps}
-use Rattle.records.specs.Inner.{filled}
-use Rattle.records.specs.Records.{Result, result, in-front, goes-on, reads, counted, one, play}
+use Rattle.run_rules.specs.Inner.{filled}
+use Rattle.run_rules.specs.Records.{Result, result, in-front, goes-on, reads, counted, one, play}
 
 -- an event that the run goes on after is counted, another is not
 pub is-counted : (o : Outcome) (k : ℕ) → goes-on (o .done .answer) ≡ true

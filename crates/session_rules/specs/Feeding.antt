@@ -5,11 +5,11 @@ use mathlib.Core.List.{List, [], _++_}
 use lib.Dec.{eqb}
 use lib.ListN.{length, drop}
 use Rattle.tape.specs.Tape.{record-size}
-use Rattle.run.specs.Run.{Result, reads, play}
-use Rattle.records.specs.declared.Ended.{Ended}
-use Rattle.session_value.specs.Value.{session, holds}
-use Rattle.session_value.specs.declared.Session.{Session}
-use Rattle.session_value.specs.declared.Fed.{Fed}
+use Rattle.run_rules.specs.Run.{Result, reads, play}
+use Rattle.run_rules.specs.declared.Ended.{Ended}
+use Rattle.session_rules.specs.Value.{session, holds}
+use Rattle.session_rules.specs.declared.Session.{Session}
+use Rattle.session_rules.specs.declared.Fed.{Fed}
 
 -- what feeding leaves: its answer, how many records it finished and the session; memory; the answers of the records that it finished
 pub record Feeding : Type 0 where

@@ -17,7 +17,7 @@ use Rattle.tape.specs.declared.Found.{Found}
 use Rattle.tape.proofs.FirstBad.{up-to, none-bad}
 use Rattle.tape.specs.declared.Read.{Read}
 use Rattle.tape.specs.declared.Read.the-variants.{Record, Refused}
-use Rattle.run.specs.Run.{Result, result, in-front, goes-on, reads, counted, one, play}
+use Rattle.run_rules.specs.Run.{Result, result, in-front, goes-on, reads, counted, one, play}
 
 -- ---- the records of bytes
 

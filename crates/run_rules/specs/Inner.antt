@@ -2,7 +2,7 @@
 use Prim.Native.Nat.{ℕ}
 use mathlib.Core.List.{List}
 use lib.Seq.{sets}
-use Rattle.records.specs.Records.{Result}
+use Rattle.run_rules.specs.Records.{Result}
 
 -- the answers of a run put into a buffer from place k on
 abbrev pub filled : List ℕ → ℕ → Result → Result

@@ -9,8 +9,8 @@ use Rattle.machine.specs.declared.Machine.{Machine}
 use Rattle.tape.specs.Tape.{record-size}
 use Rattle.tape.specs.FirstBad.{found, bad-record}
 use Rattle.tape.specs.declared.Found.{Found}
-pub use Rattle.records.specs.Records.{Result, result, in-front, goes-on}
-unfoldable pub use Rattle.records.specs.Records.{reads, counted, one, play}
+pub use Rattle.run_rules.specs.Records.{Result, result, in-front, goes-on}
+unfoldable pub use Rattle.run_rules.specs.Records.{reads, counted, one, play}
 
 -- a tape that is refused as a whole: nothing is done, and the index is that of the bad record
 abbrev pub refused : Found → Machine → List ℕ → Result

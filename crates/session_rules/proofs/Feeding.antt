@@ -15,15 +15,15 @@ use Rattle.tape.specs.Tape.{record-size, read, record-at}
 use Rattle.tape.specs.declared.Read.{Read}
 use Rattle.tape.specs.declared.Read.the-variants.{Record, Refused}
 use Rattle.tape.proofs.Laws.{refusal-number}
-use Rattle.run.specs.Run.{Result, in-front, goes-on, reads, one, play}
-use Rattle.records.proofs.Laws.{one-keeps}
-use Rattle.run.proofs.Pieces as pieces
+use Rattle.run_rules.specs.Run.{Result, in-front, goes-on, reads, one, play}
+use Rattle.run_rules.proofs.Records.{one-keeps}
+use Rattle.run_rules.proofs.Pieces as pieces
 use Rattle.laws_run.specs.Steps.{Stops}
 use Rattle.laws_run.proofs.Counts.{End, ends}
-use Rattle.session_value.specs.declared.Session.{Session}
-use Rattle.session_value.specs.Value.{most-held, session, holds}
-use Rattle.session_value.proofs.Laws.{holds-those}
-use Rattle.session_pieces.specs.Feeding.{Feeding, onto, wrapped, rest, did, feed-on}
+use Rattle.session_rules.specs.declared.Session.{Session}
+use Rattle.session_rules.specs.Value.{most-held, session, holds}
+use Rattle.session_rules.proofs.Value.{holds-those}
+use Rattle.session_rules.specs.Feeding.{Feeding, onto, wrapped, rest, did, feed-on}
 
 -- ---- bytes left
 

@@ -11,7 +11,7 @@ use Rattle.machine.proofs.Validity.{valid-passes}
 use Rattle.machine.specs.declared.Machine.{Machine}
 use Rattle.tape.specs.Tape.{record-size}
 use Rattle.tape.specs.FirstBad.{found, bad-record}
-use Rattle.run.specs.Run.{refused, reads, play, run}
+use Rattle.run_rules.specs.Run.{refused, reads, play, run}
 
 -- a run does nothing where the machine or a record is refused, and else plays its records
 module _ (m : Machine) (mem tape : List ℕ) where

@@ -14,8 +14,8 @@ use Rattle.machine.specs.Valid.{machine-number, first-of}
 use Rattle.machine.specs.declared.Machine.{Machine}
 use Rattle.tape.specs.Tape.{record-size}
 use Rattle.tape.proofs.Laws.{over-all}
-use Rattle.session_value.specs.declared.Session.{Session}
-use Rattle.session_value.specs.Value.{most-held, laid, session, holds, stops-at, place-right, right, number}
+use Rattle.session_rules.specs.declared.Session.{Session}
+use Rattle.session_rules.specs.Value.{most-held, laid, session, holds, stops-at, place-right, right, number}
 
 -- ---- bytes held
 

@@ -8,7 +8,7 @@ use Rattle.base.specs.Answers as answer
 use Rattle.base.specs.Below.{all-below}
 use Rattle.machine.specs.Valid.{machine-number, first-of}
 use Rattle.machine.specs.declared.Machine.{Machine}
-use Rattle.session_value.specs.declared.Session.{Session}
+use Rattle.session_rules.specs.declared.Session.{Session}
 
 -- the most bytes that are held; src/lib.rt has the same number for the code
 abbrev pub most-held : ℕ
