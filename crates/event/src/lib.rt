@@ -275,7 +275,10 @@ fn fields_right(r: Row, f: Fields, len: usize) -> bool
     let ra = r.ra;
     let rb = r.rb;
     let index = r.index;
-    kinds::in_range(x, f.x) & kinds::in_range(ra, f.ra) & kinds::in_range(rb, f.rb) & kinds::in_memory(index, f.index, len)
+    kinds::in_range(x, f.x)
+        & kinds::in_range(ra, f.ra)
+        & kinds::in_range(rb, f.rb)
+        & kinds::in_memory(index, f.index, len)
 }
 
 // Number 4 is given unless the operands are right.

@@ -80,7 +80,16 @@ pub fn line(
 pub fn tm_line(x: Use, ra: Use, rb: Use, flags: u8, privileged: When) -> Row
     ensures { λ r. ⌜ r ≡ line x ra rb flags Without false Always privileged ⌝ }
 {
-    line(x, ra, rb, flags, Span::Without, false, When::Always, privileged)
+    line(
+        x,
+        ra,
+        rb,
+        flags,
+        Span::Without,
+        false,
+        When::Always,
+        privileged,
+    )
 }
 
 // A load's or a store's row: the register that it loads or stores, and what its index names.
@@ -94,7 +103,16 @@ pub fn access_line(x: Use, ra: Use, index: Span) -> Row
 pub fn bare_line(flags: u8, privileged: When) -> Row
     ensures { λ r. ⌜ r ≡ line No No No flags Without false Never privileged ⌝ }
 {
-    line(Use::No, Use::No, Use::No, flags, Span::Without, false, When::Never, privileged)
+    line(
+        Use::No,
+        Use::No,
+        Use::No,
+        flags,
+        Span::Without,
+        false,
+        When::Never,
+        privileged,
+    )
 }
 
 // Whether the field is used at all: one that is not is 0 in a record.

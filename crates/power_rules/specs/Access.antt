@@ -1,4 +1,4 @@
--- Loads and stores (rules A1, A2 and A4; E12, E13 and E20 to E25), and tlbie (rule E26). Rules A3 and A6 are in `conflict/specs/Conflict`.
+-- Loads and stores (rules A1, A2 and A4; E12, E13 and E20 to E25), and tlbie (rule E26). Rules A3 and A6 are in `step_rules/specs/Conflict`.
 -- Clauses by state first. A load is of w bytes of doubleword i, the lowest of them byte j; a store is of the marked bytes m of a value v.
 use Prim.Native.Nat.{ℕ}
 use mathlib.Core.Bool.{Bool, true, false, cond, _&&_}
