@@ -41,7 +41,9 @@ install_packages() { # PACKAGE...
     } >&2
 }
 
-for_c() {
+# The C compiler and the emulator. Which C library serves is asked when all is installed: a library of amd64 that comes with Rust's packages
+# does not go with the loader of the cross compiler's.
+compiler_and_emulator() {
     if [ "$(uname -m)" = x86_64 ]; then
         read -r -a cc <<<"${CC:-gcc}"
         return
@@ -52,8 +54,16 @@ for_c() {
     fi
     cc=(x86_64-linux-gnu-gcc)
     run=(qemu-x86_64)
-    # Without the C library of amd64 itself, that of the cross compiler serves.
-    [ -e /lib64/ld-linux-x86-64.so.2 ] || export QEMU_LD_PREFIX=${QEMU_LD_PREFIX:-/usr/x86_64-linux-gnu}
+}
+
+# Without the C library of amd64 itself, that of the cross compiler serves.
+library() {
+    [ "$(uname -m)" = x86_64 ] || [ -e /lib64/ld-linux-x86-64.so.2 ] || export QEMU_LD_PREFIX=${QEMU_LD_PREFIX:-/usr/x86_64-linux-gnu}
+}
+
+for_c() {
+    compiler_and_emulator
+    library
 }
 
 # Told before anything is proved or built: an old cargo stumbles over the lock file, and does not say why.
@@ -68,13 +78,14 @@ new_enough() { # FOLDER OF THE WORKSPACE
 }
 
 for_rust() { # FOLDER OF THE WORKSPACE
-    for_c
+    compiler_and_emulator
     new_enough "$1"
     [ "$(uname -m)" != x86_64 ] || return 0
     if ! rust_compiler >/dev/null; then
         # shellcheck disable=SC2086 # one word a package
         install_packages $rust_packages
     fi
+    library
     RUSTC=$(rust_compiler)
     RUSTDOC=$(dirname "$RUSTC")/rustdoc
     export RUSTC RUSTDOC CARGO_BUILD_TARGET=$target NASZEPTAN_EMULATED=1
