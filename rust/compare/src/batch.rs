@@ -40,7 +40,7 @@ pub struct Failure {
 impl Failure {
     /// The failure of a batch: a tape is shrunk, and what differs is told of
     /// the shrunk one.
-    fn new<S: Side>(side: &S, batch: u64, found: Found) -> Failure {
+    fn new(side: &dyn Side, batch: u64, found: Found) -> Failure {
         match found {
             Found::Call(what) => Failure {
                 batch,
@@ -87,8 +87,8 @@ fn rng(seed: u64, batch: u64) -> Rng {
 
 /// One batch: this many events in sequences, then runs, the other calls, those
 /// of edition two, and sessions.
-fn batch<S: Side>(
-    side: &S,
+fn batch(
+    side: &dyn Side,
     seed: u64,
     number: u64,
     events: u64,
@@ -109,8 +109,8 @@ fn batch<S: Side>(
 }
 
 /// One sequence of events from one start, compared after each.
-fn sequence<S: Side>(
-    side: &S,
+fn sequence(
+    side: &dyn Side,
     rng: &mut Rng,
     start: Start,
     length: usize,
@@ -164,8 +164,8 @@ fn sequence<S: Side>(
 
 /// One worker's share of the batches for this many events: every batch whose
 /// number leaves `share` when divided by `shares`. Stops at its first failure.
-pub fn compare<S: Side>(
-    side: &S,
+pub fn compare(
+    side: &dyn Side,
     seed: u64,
     events: u64,
     (share, shares): (u64, u64),

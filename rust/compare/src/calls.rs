@@ -16,7 +16,7 @@ use crate::sides::{self, model_valid, Side};
 use crate::start::{Kind, Start};
 
 /// The calls of one batch.
-pub fn all<S: Side>(side: &S, rng: &mut Rng, counts: &mut Counts) -> Result<(), Found> {
+pub fn all(side: &dyn Side, rng: &mut Rng, counts: &mut Counts) -> Result<(), Found> {
     for _ in 0..4 {
         valid(side, rng, counts)?;
         no_machine(side, rng, counts)?;
@@ -50,7 +50,7 @@ fn length(rng: &mut Rng, fits: usize) -> usize {
     rng.pick([fits, fits, fits, near, any, any & 0xFFF0])
 }
 
-fn valid<S: Side>(side: &S, rng: &mut Rng, counts: &mut Counts) -> Result<(), Found> {
+fn valid(side: &dyn Side, rng: &mut Rng, counts: &mut Counts) -> Result<(), Found> {
     let kind = rng.pick([Kind::Valid, Kind::Size, Kind::Broken, Kind::Shaken]);
     let start = Start {
         kind,
@@ -85,7 +85,7 @@ pub(crate) fn spoil(rng: &mut Rng, m: &mut raw::Machine) -> String {
 
 /// Bits that are no machine: 2, or 1 if the size is wrong too, by each call,
 /// and nothing changed.
-fn no_machine<S: Side>(side: &S, rng: &mut Rng, counts: &mut Counts) -> Result<(), Found> {
+fn no_machine(side: &dyn Side, rng: &mut Rng, counts: &mut Counts) -> Result<(), Found> {
     let kind = rng.pick([Kind::Valid, Kind::Two, Kind::Size, Kind::Broken]);
     let start = Start {
         kind,
@@ -125,7 +125,7 @@ fn no_machine<S: Side>(side: &S, rng: &mut Rng, counts: &mut Counts) -> Result<(
     Ok(())
 }
 
-fn read<S: Side>(side: &S, rng: &mut Rng, counts: &mut Counts) -> Result<(), Found> {
+fn read(side: &dyn Side, rng: &mut Rng, counts: &mut Counts) -> Result<(), Found> {
     let mut bytes = gen::record(rng).to_vec();
     if rng.one_in(8) {
         bytes.resize(rng.below(40), rng.byte());
@@ -141,7 +141,7 @@ fn read<S: Side>(side: &S, rng: &mut Rng, counts: &mut Counts) -> Result<(), Fou
 }
 
 /// The writer, into buffers of which only 16 bytes may change.
-fn write<S: Side>(side: &S, rng: &mut Rng, counts: &mut Counts) -> Result<(), Found> {
+fn write(side: &dyn Side, rng: &mut Rng, counts: &mut Counts) -> Result<(), Found> {
     let record = match rng.below(3) {
         0 => gen::record(rng),
         _ => {

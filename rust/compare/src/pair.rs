@@ -47,7 +47,7 @@ impl Pair {
 
     /// One event on both sides: the answer and who failed, or where they
     /// differ.
-    pub fn step<S: Side>(&mut self, side: &S, e: raw::Event) -> Result<Done, String> {
+    pub fn step(&mut self, side: &dyn Side, e: raw::Event) -> Result<Done, String> {
         let ours = model_step(&mut self.model, &mut self.memory, e);
         let lent = &mut self.lent[BESIDE..BESIDE + self.memory.len()];
         let theirs = side.step(&mut self.raw, lent, e);
@@ -63,7 +63,7 @@ impl Pair {
     }
 
     /// One tape on both sides: how it ended, or where they differ.
-    pub fn run<S: Side>(&mut self, side: &S, tape: &[u8]) -> Result<Ended, String> {
+    pub fn run(&mut self, side: &dyn Side, tape: &[u8]) -> Result<Ended, String> {
         let ours = model::run(&mut self.model, &mut self.memory, tape);
         let lent = &mut self.lent[BESIDE..BESIDE + self.memory.len()];
         let theirs = side.run(&mut self.raw, lent, tape);

@@ -23,7 +23,7 @@ pub struct Case {
 
 impl Case {
     /// Whether the sides differ: how many records were tried, and in what.
-    pub fn differs<S: Side>(&self, side: &S) -> Option<(usize, String)> {
+    pub fn differs(&self, side: &dyn Side) -> Option<(usize, String)> {
         let mut pair = Pair::new(self.start);
         if let Some(tail) = &self.tail {
             let tape = [self.records.as_flattened(), tail].concat();
@@ -41,7 +41,7 @@ impl Case {
     /// A case as short as it goes on which the sides still differ, if they do
     /// on this one: records left out, the fresh machine for the start, bytes
     /// set to 0, and all of it again as long as that helps.
-    pub fn shrunk<S: Side>(&self, side: &S) -> Case {
+    pub fn shrunk(&self, side: &dyn Side) -> Case {
         let fails = |case: &Case| case.differs(side).is_some();
         let mut case = self.clone();
         if let Some((tried, _)) = case.differs(side) {

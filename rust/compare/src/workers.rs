@@ -65,7 +65,7 @@ impl Outcome {
 
 /// Does the share that this process is given by [`all`], if it is one of its
 /// workers, and tells the outcome on standard output.
-pub fn work<S: Side>(side: &S, seed: u64, events: u64) -> bool {
+pub fn work(side: &dyn Side, seed: u64, events: u64) -> bool {
     let Ok(share) = std::env::var(SHARE) else {
         return false;
     };
@@ -101,7 +101,7 @@ fn spawn(share: usize, shares: usize) -> io::Result<Child> {
 /// All batches for this many events by this many workers, which are this
 /// program once more and must call [`work`] first. Where the program cannot be
 /// started from itself, all is done here.
-pub fn all<S: Side>(side: &S, seed: u64, events: u64, workers: usize) -> Result<Outcome, String> {
+pub fn all(side: &dyn Side, seed: u64, events: u64, workers: usize) -> Result<Outcome, String> {
     let first = match workers {
         0 | 1 => None,
         _ => spawn(0, workers).ok(),

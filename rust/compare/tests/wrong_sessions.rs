@@ -13,15 +13,14 @@ use naszeptan::raw;
 const TRIES: u64 = 4000;
 
 /// The first difference that these tries find; the archive shows none.
-fn first<S: Side>(
-    side: &S,
-    one: fn(&S, &mut Rng, &mut Counts) -> Result<(), Found>,
-    right: fn(&Archive, &mut Rng, &mut Counts) -> Result<(), Found>,
+fn first(
+    side: &dyn Side,
+    one: fn(&dyn Side, &mut Rng, &mut Counts) -> Result<(), Found>,
 ) -> String {
     let counts = &mut Counts::default();
     for seed in 0..TRIES {
         if let Err(found) = one(side, &mut Rng::new(seed), counts) {
-            assert!(right(&Archive, &mut Rng::new(seed), counts).is_ok());
+            assert!(one(&Archive, &mut Rng::new(seed), counts).is_ok());
             let Found::Call(text) = found else {
                 panic!("no tape is told of sessions")
             };
@@ -32,13 +31,13 @@ fn first<S: Side>(
 }
 
 /// What tapes in pieces tell of the side.
-fn in_pieces<S: Side>(side: &S) -> String {
-    first(side, pieces::<S>, pieces::<Archive>)
+fn in_pieces(side: &dyn Side) -> String {
+    first(side, pieces)
 }
 
 /// What values handed in tell of it.
-fn of_bits<S: Side>(side: &S) -> String {
-    first(side, bits::value::<S>, bits::value::<Archive>)
+fn of_bits(side: &dyn Side) -> String {
+    first(side, bits::value)
 }
 
 /// How many pieces are left to show it.

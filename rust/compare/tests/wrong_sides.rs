@@ -17,13 +17,13 @@ const SEED: u64 = 7;
 const EVENTS: u64 = 40_000;
 
 /// The failure that the comparison finds.
-fn found<S: Side>(side: &S) -> Failure {
+fn found(side: &dyn Side) -> Failure {
     let (_, failure) = compare(side, SEED, EVENTS, (0, 1));
     failure.expect("a wrong side is found out")
 }
 
 /// The failure's shrunk tape, on which the sides still differ, and its text.
-fn shrunk<S: Side>(side: &S) -> (Case, String) {
+fn shrunk(side: &dyn Side) -> (Case, String) {
     let failure = found(side);
     let text = failure.to_string();
     let case = failure.case.expect("a tape");

@@ -18,7 +18,7 @@ use cells::{Call, View};
 const KEPT: u8 = 0x5A;
 
 /// The calls of one batch.
-pub fn all<S: Side>(side: &S, rng: &mut Rng, counts: &mut Counts) -> Result<(), Found> {
+pub fn all(side: &dyn Side, rng: &mut Rng, counts: &mut Counts) -> Result<(), Found> {
     for _ in 0..20 {
         read(side, rng, counts)?;
         write(side, rng, counts)?;
@@ -29,7 +29,7 @@ pub fn all<S: Side>(side: &S, rng: &mut Rng, counts: &mut Counts) -> Result<(), 
     Ok(())
 }
 
-fn read<S: Side>(side: &S, rng: &mut Rng, counts: &mut Counts) -> Result<(), Found> {
+fn read(side: &dyn Side, rng: &mut Rng, counts: &mut Counts) -> Result<(), Found> {
     let mut bytes = match rng.below(8) {
         0 => gen::good_record(rng, Edition::Three).to_vec(),
         _ => gen::near_record(rng, Edition::Two).to_vec(),
@@ -73,7 +73,7 @@ fn fields(rng: &mut Rng) -> [u8; 16] {
 }
 
 /// The writer, into buffers of which only 16 bytes may change.
-fn write<S: Side>(side: &S, rng: &mut Rng, counts: &mut Counts) -> Result<(), Found> {
+fn write(side: &dyn Side, rng: &mut Rng, counts: &mut Counts) -> Result<(), Found> {
     let record = fields(rng);
     let e = sides::fields(record);
     let any = rng.below(40);
@@ -116,8 +116,8 @@ fn tape(rng: &mut Rng, edition: Edition) -> Vec<u8> {
 
 /// One tape into a buffer that is mostly long enough. What was converted is
 /// converted back, too.
-fn converter<S: Side>(
-    side: &S,
+fn converter(
+    side: &dyn Side,
     rng: &mut Rng,
     edition: Edition,
     counts: &mut Counts,
@@ -137,8 +137,8 @@ fn converter<S: Side>(
 
 /// Converts a tape into a buffer of this much room on both sides: the converted
 /// tape, if it was.
-fn convert<S: Side>(
-    side: &S,
+fn convert(
+    side: &dyn Side,
     rng: &mut Rng,
     edition: Edition,
     (tape, room): (&[u8], usize),

@@ -20,7 +20,7 @@ use cells::View;
 type Bytes = [u8; 16];
 
 /// The runs of one batch.
-pub fn all<S: Side>(side: &S, rng: &mut Rng, counts: &mut Counts) -> Result<(), Found> {
+pub fn all(side: &dyn Side, rng: &mut Rng, counts: &mut Counts) -> Result<(), Found> {
     for _ in 0..4 {
         run(side, rng, counts)?;
         bad_run(side, rng, counts)?;
@@ -49,7 +49,7 @@ fn records(rng: &mut Rng, pair: &Pair, most: usize) -> Vec<Bytes> {
 }
 
 /// One run of any tape.
-fn run<S: Side>(side: &S, rng: &mut Rng, counts: &mut Counts) -> Result<(), Found> {
+fn run(side: &dyn Side, rng: &mut Rng, counts: &mut Counts) -> Result<(), Found> {
     let start = Start::random(rng);
     let pair = Pair::new(start);
     let (records, tail) = any_tape(rng, &pair);
@@ -57,7 +57,7 @@ fn run<S: Side>(side: &S, rng: &mut Rng, counts: &mut Counts) -> Result<(), Foun
 }
 
 /// One run of a short tape that is not to be run.
-fn bad_run<S: Side>(side: &S, rng: &mut Rng, counts: &mut Counts) -> Result<(), Found> {
+fn bad_run(side: &dyn Side, rng: &mut Rng, counts: &mut Counts) -> Result<(), Found> {
     let start = Start::random(rng);
     let pair = Pair::new(start);
     let (records, tail) = bad_tape(rng, &pair);
@@ -106,8 +106,8 @@ pub(crate) fn bad_tape(rng: &mut Rng, pair: &Pair) -> (Vec<Bytes>, Vec<u8>) {
 }
 
 /// Runs the tape on both sides and notes what was met.
-fn compared<S: Side>(
-    side: &S,
+fn compared(
+    side: &dyn Side,
     mut pair: Pair,
     (start, records, tail): (Start, Vec<Bytes>, Vec<u8>),
     counts: &mut Counts,

@@ -70,7 +70,7 @@ fn stopped_and_held(rng: &mut Rng, s: &mut Session) {
 }
 
 /// One value, fed and closed on both sides.
-pub fn value<S: Side>(side: &S, rng: &mut Rng, counts: &mut Counts) -> Result<(), Found> {
+pub fn value(side: &dyn Side, rng: &mut Rng, counts: &mut Counts) -> Result<(), Found> {
     let (mut session, mut memory) = session(rng);
     damage(rng, &mut session, &mut memory);
     let bytes = loose_bytes(rng);
@@ -98,7 +98,7 @@ pub fn value<S: Side>(side: &S, rng: &mut Rng, counts: &mut Counts) -> Result<()
 
 /// Bits whose machine is none: 2, or 1 if the size is wrong too, by each call,
 /// and nothing changed.
-pub fn no_machine<S: Side>(side: &S, rng: &mut Rng, counts: &mut Counts) -> Result<(), Found> {
+pub fn no_machine(side: &dyn Side, rng: &mut Rng, counts: &mut Counts) -> Result<(), Found> {
     let (mut session, mut memory) = session(rng);
     if rng.flag() {
         damage(rng, &mut session, &mut memory);
@@ -136,8 +136,8 @@ pub fn no_machine<S: Side>(side: &S, rng: &mut Rng, counts: &mut Counts) -> Resu
 }
 
 /// Feeding them is refused by this number.
-fn fed_no_machine<S: Side>(
-    side: &S,
+fn fed_no_machine(
+    side: &dyn Side,
     rng: &mut Rng,
     bits: &raw::Session,
     memory: &[u64],

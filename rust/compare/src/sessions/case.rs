@@ -35,7 +35,7 @@ impl Case {
     /// Opens, feeds all pieces and closes on both sides, which must agree after
     /// each; and then holds the end to the model's over one whole piece. What
     /// was met is told.
-    pub fn compared<S: Side>(&self, side: &S, tell: &mut impl FnMut(&View)) -> Result<(), String> {
+    pub fn compared(&self, side: &dyn Side, tell: &mut impl FnMut(&View)) -> Result<(), String> {
         let (m, memory) = self.start.build();
         let mut desk = Desk::open(side, &m, &memory)?;
         let len = memory.len();
@@ -107,13 +107,13 @@ impl Case {
     }
 
     /// In what the sides differ.
-    fn differs<S: Side>(&self, side: &S) -> Option<String> {
+    fn differs(&self, side: &dyn Side) -> Option<String> {
         self.compared(side, &mut |_| {}).err()
     }
 
     /// As few of its pieces as still show a difference, each as short as it
     /// goes by whole records, and from the fresh machine if that does.
-    pub fn shrunk<S: Side>(&self, side: &S) -> Case {
+    pub fn shrunk(&self, side: &dyn Side) -> Case {
         let mut case = self.clone();
         let with = |pieces: &[Piece]| Case {
             pieces: pieces.to_vec(),
@@ -134,7 +134,7 @@ impl Case {
     }
 
     /// Takes out of a piece, 16 bytes at a time, what is not needed.
-    fn shorten<S: Side>(&mut self, side: &S, piece: usize) {
+    fn shorten(&mut self, side: &dyn Side, piece: usize) {
         let bytes = self.pieces[piece].bytes.clone();
         let chunks: Vec<&[u8]> = bytes.chunks(16).collect();
         let mut case = self.clone();
@@ -146,7 +146,7 @@ impl Case {
     }
 
     /// The difference and what shows it.
-    pub fn told<S: Side>(&self, side: &S) -> String {
+    pub fn told(&self, side: &dyn Side) -> String {
         let what = self.differs(side);
         let what = what.unwrap_or("they differ, but not when tried again".to_string());
         format!("session: {what}\n{self}")

@@ -24,7 +24,7 @@ pub struct Desk {
 
 impl Desk {
     /// The machine opened on both sides, or where these differ.
-    pub fn open<S: Side>(side: &S, m: &Machine, memory: &[u64]) -> Result<Desk, String> {
+    pub fn open(side: &dyn Side, m: &Machine, memory: &[u64]) -> Result<Desk, String> {
         let len = memory.len();
         let mut desk = Desk::of(Session::open(m.clone(), len), memory);
         desk.raw = side.open(&to_raw(m), len);
@@ -65,9 +65,9 @@ impl Desk {
 
     /// One piece on both sides, with a copy of this buffer: what was given and
     /// the buffer after it, or where they differ.
-    pub fn feed<S: Side>(
+    pub fn feed(
         &mut self,
-        side: &S,
+        side: &dyn Side,
         piece: &[u8],
         answers: &[u8],
     ) -> Result<(Fed, Vec<u8>), String> {
@@ -84,7 +84,7 @@ impl Desk {
     }
 
     /// The close on both sides, or where they differ.
-    pub fn close<S: Side>(&mut self, side: &S) -> Result<Ended, String> {
+    pub fn close(&mut self, side: &dyn Side) -> Result<Ended, String> {
         let len = self.len();
         let right = self.model.close(len);
         let (given, machine) = side.close(&self.raw, len);

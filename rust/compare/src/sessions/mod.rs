@@ -26,7 +26,7 @@ use case::{Case, Piece};
 const MOST: usize = 24;
 
 /// The sessions of one batch.
-pub fn all<S: Side>(side: &S, rng: &mut Rng, counts: &mut Counts) -> Result<(), Found> {
+pub fn all(side: &dyn Side, rng: &mut Rng, counts: &mut Counts) -> Result<(), Found> {
     for _ in 0..8 {
         pieces(side, rng, counts)?;
         bits::value(side, rng, counts)?;
@@ -36,7 +36,7 @@ pub fn all<S: Side>(side: &S, rng: &mut Rng, counts: &mut Counts) -> Result<(), 
 }
 
 /// One session over a tape in pieces.
-pub fn pieces<S: Side>(side: &S, rng: &mut Rng, counts: &mut Counts) -> Result<(), Found> {
+pub fn pieces(side: &dyn Side, rng: &mut Rng, counts: &mut Counts) -> Result<(), Found> {
     let start = Start::random(rng);
     let tape = tape(rng, start);
     let near_the_top = u64::MAX - rng.below(4) as u64;
