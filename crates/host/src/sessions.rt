@@ -8,7 +8,7 @@ use crate::RawSession;
 use crate::entries;
 use crossing::RawMachine;
 use session_rules::Session;
-use session_value::HELD;
+use session_rules::HELD;
 
 fn session_of(s: RawSession) -> Session
     ensures { λ r. ⌜ r ≡ session-of s ⌝ }
