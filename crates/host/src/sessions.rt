@@ -7,8 +7,8 @@ use crate::RawFed;
 use crate::RawSession;
 use crate::entries;
 use crossing::RawMachine;
-use session_rules::Session;
 use session_rules::HELD;
+use session_rules::Session;
 
 fn session_of(s: RawSession) -> Session
     ensures { λ r. ⌜ r ≡ session-of s ⌝ }

@@ -63,6 +63,35 @@ Aligned (Sth ra a) = 2 + a % bytes ≤ bytes
 Aligned (Stw ra a) = 4 + a % bytes ≤ bytes
 Aligned (Tlbie p) = Unit {0}
 
+-- the events that the first choice leaves
+abbrev pub Left : Event → Type 0
+Left (Tbegin r) = ⊥
+Left (Tend a) = ⊥
+Left (Tabort ra) = ⊥
+Left (Tabortwc to ra rb) = ⊥
+Left (Tabortdc to ra rb) = ⊥
+Left (Tsr l) = ⊥
+Left (Tcheck bf) = ⊥
+Left (Event.Treclaim ra) = Unit {0}
+Left Event.Trechkpt = Unit {0}
+Left (Event.Mtspr spr ra) = Unit {0}
+Left (Mfspr rt spr) = ⊥
+Left (Ld rt i) = Unit {0}
+Left (Std ra i) = Unit {0}
+Left (Addi rt ra si) = ⊥
+Left Disallowed = Unit {0}
+Left Interrupt = Unit {0}
+Left (Host pr tm) = Unit {0}
+Left Rfid = Unit {0}
+Left (Mtmsrd t s tm pr) = Unit {0}
+Left (Lbz rt a) = Unit {0}
+Left (Lhz rt a) = Unit {0}
+Left (Lwz rt a) = Unit {0}
+Left (Stb ra a) = Unit {0}
+Left (Sth ra a) = Unit {0}
+Left (Stw ra a) = Unit {0}
+Left (Tlbie p) = Unit {0}
+
 -- what an event loads or stores, if it does
 unfoldable pub accesses : Event → Access
 accesses (Tbegin r) = Neither

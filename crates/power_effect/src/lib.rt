@@ -9,7 +9,7 @@ ghost use Rattle.rows.specs.Landed.{landed};
 ghost use Rattle.power_rules.specs.Common.{did};
 ghost use Rattle.step_rules.specs.Effects.{effect};
 ghost use Rattle.power_effect.specs.declared.Access.the-variants.{Load, Store, Neither};
-ghost use Rattle.power_effect.specs.Inner.{Ready, Registered, rare, Aligned, accesses};
+ghost use Rattle.power_effect.specs.Inner.{Ready, Registered, rare, Left, Aligned, accesses};
 ghost use Rattle.doubleword.specs.Doubleword.{bytes, doubleword-of, lowest};
 use base::CR_FIELDS;
 use base::GPRS;
@@ -166,7 +166,7 @@ fn accesses(e: Event) -> Access
     }
 }
 
-// An event that loads and stores nothing, on its own thread's rows and on memory.
+// An event that is left and loads and stores nothing. No other comes to the last arm.
 fn other(
     gpr: &mut [u64; GPRS],
     cr: &mut [u8; CR_FIELDS],
@@ -179,23 +179,11 @@ fn other(
     e: Event,
 ) -> Went
     requires { ⌜ Ready e (standing (now gpr) (now cr) (now kgpr) (now kcr) (now words) (now ix) (now vl)) (length (now mem)) ⌝ }
+    requires { ⌜ Left e ⌝ }
     requires { ⌜ accesses e ≡ Neither ⌝ }
     ensures { λ r. ⌜ record { answer = r .answer; thread = standing (now (gpr .exit)) (now (cr .exit)) (now (kgpr .exit)) (now (kcr .exit)) (now (words .exit)) (now (ix .exit)) (now (vl .exit)); touch = r .touch; memory = now (mem .exit) } ≡ landed (effect e (standing (now (gpr .entry)) (now (cr .entry)) (now (kgpr .entry)) (now (kcr .entry)) (now (words .entry)) (now (ix .entry)) (now (vl .entry))) (now (mem .entry))) (held (head-of (now (words .entry))) (now (ix .entry)) (now (vl .entry))) (now (mem .entry)) ⌝ }
 {
     match e {
-        Event::Tbegin { r } => quiet(power_begins::tbegin(gpr, cr, kgpr, kcr, words, r)),
-        Event::Tend { a } => power_ends::tend(words, &*ix, &*vl, mem, a),
-        Event::Tabort { ra } => quiet(tabort(gpr, cr, &*kgpr, &*kcr, words, ra)),
-        Event::Tabortwc { to, ra, rb } => {
-            let answer = tabortwc(gpr, cr, &*kgpr, &*kcr, words, to, ra, rb);
-            quiet(answer)
-        }
-        Event::Tabortdc { to, ra, rb } => {
-            let answer = tabortdc(gpr, cr, &*kgpr, &*kcr, words, to, ra, rb);
-            quiet(answer)
-        }
-        Event::Tsr { l } => quiet(power_suspends::tsr(gpr, cr, &*kgpr, &*kcr, words, l)),
-        Event::Tcheck { bf } => quiet(power_reclaims::tcheck(cr, words, bf)),
         Event::Treclaim { ra } => {
             let rare = Rare::Treclaim { ra };
             quiet(by_value(gpr, cr, kgpr, kcr, words, ix, vl, rare))
@@ -205,8 +193,6 @@ fn other(
             let rare = Rare::Mtspr { spr, ra };
             quiet(by_value(gpr, cr, kgpr, kcr, words, ix, vl, rare))
         }
-        Event::Mfspr { rt, spr } => quiet(power_special::mfspr(gpr, words, rt, spr)),
-        Event::Addi { rt, ra, si } => quiet(power_plain::addi(gpr, words, rt, ra, si)),
         Event::Disallowed => quiet(power_plain::disallowed(gpr, cr, &*kgpr, &*kcr, words)),
         Event::Interrupt => quiet(power_plain::interrupt(words)),
         Event::Host { pr, tm } => quiet(power_plain::host(words, pr, tm)),
@@ -216,19 +202,12 @@ fn other(
             quiet(power_returns::mtmsrd(gpr, cr, &*kgpr, &*kcr, words, asked))
         }
         Event::Tlbie { page } => power_access::page::tlbie(gpr, cr, &*kgpr, &*kcr, words, page),
-        Event::Ld { rt, index } => quiet(0),
-        Event::Std { ra, index } => quiet(0),
-        Event::Lbz { rt, address } => quiet(0),
-        Event::Lhz { rt, address } => quiet(0),
-        Event::Lwz { rt, address } => quiet(0),
-        Event::Stb { ra, address } => quiet(0),
-        Event::Sth { ra, address } => quiet(0),
-        Event::Stw { ra, address } => quiet(0),
+        _ => quiet(0),
     }
 }
 
-// The event on its own thread's rows and on memory.
-pub fn effect(
+// An event that `effect` leaves: a load, a store, or one of the others.
+fn rest(
     gpr: &mut [u64; GPRS],
     cr: &mut [u8; CR_FIELDS],
     kgpr: &mut [u64; GPRS],
@@ -240,6 +219,7 @@ pub fn effect(
     e: Event,
 ) -> Went
     requires { ⌜ Ready e (standing (now gpr) (now cr) (now kgpr) (now kcr) (now words) (now ix) (now vl)) (length (now mem)) ⌝ }
+    requires { ⌜ Left e ⌝ }
     ensures { λ r. ⌜ record { answer = r .answer; thread = standing (now (gpr .exit)) (now (cr .exit)) (now (kgpr .exit)) (now (kcr .exit)) (now (words .exit)) (now (ix .exit)) (now (vl .exit)); touch = r .touch; memory = now (mem .exit) } ≡ landed (effect e (standing (now (gpr .entry)) (now (cr .entry)) (now (kgpr .entry)) (now (kcr .entry)) (now (words .entry)) (now (ix .entry)) (now (vl .entry))) (now (mem .entry))) (held (head-of (now (words .entry))) (now (ix .entry)) (now (vl .entry))) (now (mem .entry)) ⌝ }
 {
     let a = accesses(e);
@@ -287,5 +267,41 @@ pub fn effect(
             )
         }
         Access::Neither => other(gpr, cr, kgpr, kcr, words, ix, vl, mem, e),
+    }
+}
+
+// The event on its own thread's rows and on memory. The kinds that a transaction is made of, mfspr and addi are chosen here, before
+// `accesses`: the compiler then leads each of them from its test for refusals straight to its own code (docs/PERFORMANCE.md).
+pub fn effect(
+    gpr: &mut [u64; GPRS],
+    cr: &mut [u8; CR_FIELDS],
+    kgpr: &mut [u64; GPRS],
+    kcr: &mut [u8; CR_FIELDS],
+    words: &mut [u64; HEAD],
+    ix: &mut [u32; PLACES],
+    vl: &mut [u64; VALUES],
+    mem: &mut [u64],
+    e: Event,
+) -> Went
+    requires { ⌜ Ready e (standing (now gpr) (now cr) (now kgpr) (now kcr) (now words) (now ix) (now vl)) (length (now mem)) ⌝ }
+    ensures { λ r. ⌜ record { answer = r .answer; thread = standing (now (gpr .exit)) (now (cr .exit)) (now (kgpr .exit)) (now (kcr .exit)) (now (words .exit)) (now (ix .exit)) (now (vl .exit)); touch = r .touch; memory = now (mem .exit) } ≡ landed (effect e (standing (now (gpr .entry)) (now (cr .entry)) (now (kgpr .entry)) (now (kcr .entry)) (now (words .entry)) (now (ix .entry)) (now (vl .entry))) (now (mem .entry))) (held (head-of (now (words .entry))) (now (ix .entry)) (now (vl .entry))) (now (mem .entry)) ⌝ }
+{
+    match e {
+        Event::Tbegin { r } => quiet(power_begins::tbegin(gpr, cr, kgpr, kcr, words, r)),
+        Event::Tend { a } => power_ends::tend(words, &*ix, &*vl, mem, a),
+        Event::Tabort { ra } => quiet(tabort(gpr, cr, &*kgpr, &*kcr, words, ra)),
+        Event::Tabortwc { to, ra, rb } => {
+            let answer = tabortwc(gpr, cr, &*kgpr, &*kcr, words, to, ra, rb);
+            quiet(answer)
+        }
+        Event::Tabortdc { to, ra, rb } => {
+            let answer = tabortdc(gpr, cr, &*kgpr, &*kcr, words, to, ra, rb);
+            quiet(answer)
+        }
+        Event::Tsr { l } => quiet(power_suspends::tsr(gpr, cr, &*kgpr, &*kcr, words, l)),
+        Event::Tcheck { bf } => quiet(power_reclaims::tcheck(cr, words, bf)),
+        Event::Mfspr { rt, spr } => quiet(power_special::mfspr(gpr, words, rt, spr)),
+        Event::Addi { rt, ra, si } => quiet(power_plain::addi(gpr, words, rt, ra, si)),
+        _ => rest(gpr, cr, kgpr, kcr, words, ix, vl, mem, e),
     }
 }

@@ -91,20 +91,26 @@ pub fn of_kind(f: Fields, zero: bool) -> Read
     }
 }
 
-// The event of fields of a right kind, with a case for each frequent kind: tbegin., tend., ld, std, addi, lwz, stw. There the compiler knows
-// the event's shape. Any other event comes back in a place of its own: were it that of the frequent ones, all would go through memory.
+// The event of fields of a right kind, with a case for each frequent kind: tbegin., tend., tabortwc., tabortdc., tsr., mfspr, ld, std, addi,
+// lwz, stw. There the compiler knows the event's shape. Any other event comes back in a place of its own: were it that of the frequent ones,
+// all would go through memory. It is made of fields that are laid out anew, so that the others' fields do not stand in memory either.
 fn frequent(f: Fields) -> Event
     ensures { λ e. ⌜ e ≡ event-of f ⌝ }
 {
     let kind = f.kind;
     let x = f.x;
     let ra = f.ra;
+    let rb = f.rb;
     let index = f.index;
     let si = f.si;
     let one = f.flags == 1;
     match kind {
         1 => Event::Tbegin { r: one },
         2 => Event::Tend { a: one },
+        4 => Event::Tabortwc { to: x, ra, rb },
+        5 => Event::Tabortdc { to: x, ra, rb },
+        6 => Event::Tsr { l: one },
+        11 => Event::Mfspr { rt: ra, spr: x },
         12 => Event::Ld { rt: x, index },
         13 => Event::Std { ra, index },
         14 => Event::Addi { rt: x, ra, si },
@@ -114,7 +120,17 @@ fn frequent(f: Fields) -> Event
         },
         25 => Event::Stw { ra, address: index },
         _ => {
-            let other = event::event_of(f);
+            let own = Fields {
+                kind,
+                thread: f.thread,
+                x,
+                ra,
+                rb,
+                flags: f.flags,
+                index,
+                si,
+            };
+            let other = event::event_of(own);
             other
         }
     }

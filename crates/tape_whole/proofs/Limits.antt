@@ -13,7 +13,7 @@ use Rattle.kinds.specs.Rows.{rows, kind-right, no-row, row, used, spans}
 use Rattle.kinds.specs.declared.Row.{Row}
 use Rattle.tape.specs.Tape.{record-size, first-byte, byte, two, four, fields-at, fixed-zero, unused-clear, judged, of-kind, read, number}
 use Rattle.tape.specs.FirstBad.{read-number}
-use Rattle.tape_whole.specs.Inner.{most, limits, table, within}
+use Rattle.tape_whole.specs.Inner.{most, limits, table, ones, masks, within}
 use Rattle.tape.specs.declared.Read.{Read}
 use Rattle.tape.specs.declared.Read.the-variants.{Record, Refused}
 use Rattle.tape.proofs.Laws.{of-a-kind}
@@ -29,12 +29,23 @@ unfolding table row
 table-at zero lo hi = absurd (omega arith)
 table-at (suc k) lo hi = let e : suc k - 1 ≡ k = omega arith in ap (λ (n : ℕ). getD table n []) e ∙ each-row rows k (omega arith)
 
+-- each kind has sixteen, all of them ones from some bit down: by computation
+all-masks : all-below (λ k. eqb (length (getD table k [])) 16 && masks (getD table k [])) 26 ≡ true
+unfolding table rows limits masks ones all-below
+all-masks = refl
+
+pub masks-at : (k : ℕ) → k < 26 → (length (getD table k []) ≡ 16) × (masks (getD table k []) ≡ true)
+masks-at k h =
+    let e = all-at (λ i. eqb (length (getD table i [])) 16 && masks (getD table i [])) 26 k all-masks h in
+    let sixteen = eqb (length (getD table k [])) 16 in
+    (eqb-true (length (getD table k [])) 16 (and-left sixteen (masks (getD table k [])) e), and-right sixteen (masks (getD table k [])) e)
+
 -- ---- a record within the limits
 
-both : {a b : Bool} → a ≡ true → b ≡ true → (a && b) ≡ true
+pub both : {a b : Bool} → a ≡ true → b ≡ true → (a && b) ≡ true
 both p q = and-intro _ _ p q
 
-agree : (a b : Bool) → (a ≡ true → b ≡ true) → (b ≡ true → a ≡ true) → a ≡ b
+pub agree : (a b : Bool) → (a ≡ true → b ≡ true) → (b ≡ true → a ≡ true) → a ≡ b
 agree true b p q = sym (p refl)
 agree false true p q = q refl
 agree false false p q = refl

@@ -1,18 +1,20 @@
 // A whole tape, read before any of it is run (rule R1).
 ghost use mathlib.Core.Path.{_≡_};
-ghost use Prim.Native.Nat.{_/_, _≤_};
+ghost use mathlib.Core.Bool.{true};
+ghost use Prim.Native.Nat.{_+_, _/_, _≤_};
 ghost use lib.Dec.{eqb};
 ghost use lib.ListN.{length};
 ghost use Rattle.kinds.specs.Rows.{rows, row};
 ghost use Rattle.tape.specs.Tape.{record-size};
 ghost use Rattle.tape.specs.FirstBad.{read-number, first-bad, bad-record};
 ghost use Rattle.tape_whole.specs.Inner as inner;
-ghost use Rattle.tape_whole.specs.Inner.{table, within};
+ghost use Rattle.tape_whole.specs.Inner.{table, word, covered, masks, within};
 use base::answer;
 use tape::FIRST_BYTE;
 use tape::Found;
 use tape::RECORD_SIZE;
 use tape::reader;
+use tape::reader::four;
 
 const KINDS: usize = 26;
 
@@ -74,18 +76,34 @@ const LIMITS: [[u8; RECORD_SIZE]; KINDS] = [
     INDEX,
 ];
 
-// Every byte of a record is within its limit. All are compared, so that the compiler may compare them at once.
-fn within(s: &[u8], limits: &[u8; RECORD_SIZE]) -> bool
+// Four bytes as a number whose lowest byte is the first: most processors read them so at once.
+fn word(s: &[u8], at: usize) -> u32
+    requires { ⌜ at + 4 ≤ length (now s) ⌝ }
+    ensures { λ r. ⌜ r ≡ word (now (s .entry)) at ⌝ }
+{
+    four(s[at + 3], s[at + 2], s[at + 1], s[at])
+}
+
+// Four bytes have no bit that their limits have not.
+fn covered(s: &[u8], limits: &[u8], at: usize) -> bool
+    requires { ⌜ at + 4 ≤ length (now s) ⌝ }
+    requires { ⌜ at + 4 ≤ length (now limits) ⌝ }
+    ensures { λ r. ⌜ r ≡ covered (word (now (s .entry)) at) (word (now (limits .entry)) at) ⌝ }
+{
+    let limit = word(limits, at);
+    word(s, at) | limit == limit
+}
+
+// Every byte of a record is within its limit. A limit is ones from some bit down, so that a byte is within where it has no other bit, and
+// four bytes are told at once. The three that have no limit are left out: two of them were read before, and the compiler would not join
+// them with the others.
+fn within(s: &[u8], limits: &[u8]) -> bool
     requires { ⌜ length (now s) ≡ record-size ⌝ }
+    requires { ⌜ length (now limits) ≡ record-size ⌝ }
+    requires { ⌜ masks (now limits) ≡ true ⌝ }
     ensures { λ r. ⌜ r ≡ within (now (s .entry)) (now (limits .entry)) ⌝ }
 {
-    let mut all = true;
-    let mut i = RECORD_SIZE;
-    while 0 < i {
-        i -= 1;
-        all = all & (s[i] <= limits[i]);
-    }
-    all
+    covered(s, limits, 12) & covered(s, limits, 8) & covered(s, limits, 4) & (s[3] <= limits[3])
 }
 
 // The same by the kind's own limits.

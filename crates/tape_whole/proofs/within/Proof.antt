@@ -1,73 +1,47 @@
--- `tape_whole::within` meets its contract: what passed so far, and the bytes that are left, tell what all tell.
-use mathlib.Core.Path.{_≡_, refl, sym, ap, _∙_}
-use mathlib.Core.Bool.{Bool, true, false, _&&_, and-assoc, and-true}
-use Prim.Native.Nat.{ℕ, _-_, _≤_, _<_}
+-- `tape_whole::within` meets its contract.
+use mathlib.Core.Path.{_∙_}
+use mathlib.Core.Bool.{_&&_}
 use native.Mathlib.Omega.{arith}
-use mathlib.Core.List.{List}
 use lib.Dec.{leb}
 use lib.ListN.{getD}
-use Rattle.base.specs.Below.{all-below}
-use Rattle.base.proofs.Below.{all-step, all-none}
-use Rattle.tape.specs.Tape.{byte}
-use Rattle.tape_whole.specs.Inner.{within}
+use Rattle.tape_whole.proofs.Words.{within-is}
 use borrow.Author.Needs.{needs}
 use Rattle.tape_whole.proofs.within.Statement.{statement}
 use Rattle.tape_whole.proofs.within.Tie as tie
 
--- a byte is within its limit
-abbrev passes : List ℕ → List ℕ → ℕ → Bool
-passes s limits i = leb (byte s i) (getD limits i 0)
+covered-requires : tie.Need-covered-requires
+covered-requires c κs = search needs
 
-abbrev Inv-loop : tie.InvT-loop
-Inv-loop s limits all₀ i₀ all i = (i ≤ 16) × ((all && all-below (passes s limits) i) ≡ within s limits)
+covered-requires-2 : tie.Need-covered-requires-2
+covered-requires-2 c κs = search needs
 
-abbrev μ-loop : tie.MeasureT-loop
-μ-loop s limits all₀ i₀ all i = i
+covered-requires-3 : tie.Need-covered-requires-3
+covered-requires-3 c κs = search needs
 
-loop-holds : tie.Need-loop-holds Inv-loop μ-loop
-unfolding within
-loop-holds c = (omega arith, refl)
+shared-slice-read-result : tie.Need-shared-slice-read-result
+shared-slice-read-result c = search needs
 
-sub-i : tie.Need-sub-i Inv-loop μ-loop
-sub-i c = omega arith
+shared-slice-read-result-2 : tie.Need-shared-slice-read-result-2
+shared-slice-read-result-2 c = search needs
 
-shared-slice-read-all : tie.Need-shared-slice-read-all Inv-loop μ-loop
-shared-slice-read-all c = omega arith
-
-element-copy-out-all : tie.Need-element-copy-out-all Inv-loop μ-loop
-element-copy-out-all c = omega arith
-
-loop-less : tie.Need-loop-less Inv-loop μ-loop
-loop-less c = omega arith
-
-loop-again : tie.Need-loop-again Inv-loop μ-loop
-loop-again c =
-    let l = c .before .before .before in
-    let a = l .before .args in
-    let t = c .before .before .loop-test .taken in
-    let f = passes (a .s .now) (a .limits .now) in
-    let i = l .loop .i in (
-      omega (arith, l .loop .inv .0),
-      and-assoc (l .loop .all) (f (i - 1)) (all-below f (i - 1)) ∙ sym (ap (_&&_ (l .loop .all)) (all-step f i t)) ∙ l .loop .inv .1,
-    )
-
-returns : tie.Need-returns Inv-loop μ-loop
+returns : tie.Need-returns
 returns c =
-    let l = c .before in
-    let a = l .before .args in
-    let f = passes (a .s .now) (a .limits .now) in
-    sym (ap (_&&_ (l .loop .all)) (all-none f (l .loop .i) (c .loop-test .left)) ∙ and-true (l .loop .all)) ∙ l .loop .inv .1
+    let k = c .before in
+    let t = k .before in
+    let b = t .before .before .before .before in
+    let s = b .before in
+    let bs = s .args .s .now in
+    let ls = s .args .limits .now in
+    (λ j. ((t .before .before .covered .ensures j && t .before .covered2 .ensures j) && t .covered3 .ensures j) && leb (getD bs 3 0) (getD ls 3 0))
+    ∙ within-is bs ls (λ i. omega (arith, b .shared-slice-known .given i)) (s .pre .1 .1)
 
 pub within-spec : {M : Type 1} → statement M
 within-spec =
     tie.close
     (tie.spec
-    Inv-loop
-    μ-loop
-    loop-holds
-    sub-i
-    shared-slice-read-all
-    element-copy-out-all
-    loop-less
-    loop-again
+    covered-requires
+    covered-requires-2
+    covered-requires-3
+    shared-slice-read-result
+    shared-slice-read-result-2
     returns)

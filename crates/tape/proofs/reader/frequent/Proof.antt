@@ -36,9 +36,38 @@ unfolding event-of
 returns-7 c = simp (c .match .keys7)
 
 returns-8 : tie.Need-returns-8
-returns-8 c = search needs
+unfolding event-of
+returns-8 c = simp (c .match .keys8)
+
+returns-9 : tie.Need-returns-9
+unfolding event-of
+returns-9 c = simp (c .match .keys9)
+
+returns-10 : tie.Need-returns-10
+unfolding event-of
+returns-10 c = simp (c .match .keys10)
+
+returns-11 : tie.Need-returns-11
+unfolding event-of
+returns-11 c = simp (c .match .keys11)
+
+returns-12 : tie.Need-returns-12
+returns-12 c = search needs
 
 pub frequent-spec : {M : Type 1} → statement M
 frequent-spec =
     tie.close
-    (tie.spec event-of-requires returns returns-2 returns-3 returns-4 returns-5 returns-6 returns-7 returns-8)
+    (tie.spec
+    event-of-requires
+    returns
+    returns-2
+    returns-3
+    returns-4
+    returns-5
+    returns-6
+    returns-7
+    returns-8
+    returns-9
+    returns-10
+    returns-11
+    returns-12)
