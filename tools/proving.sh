@@ -1,5 +1,5 @@
 # shellcheck shell=bash
-# Sourced by ./naszeptan and tools/archive, which have their crates proved by rt. The repository is $root.
+# Sourced by ./naszeptan and tools/archive, which have their crates proved by rt, and by their tests. The repository is $root.
 # shellcheck disable=SC2154
 
 # Says which crate is being proved, and how far that is: on a terminal in one line, else in one for each. rt makes the file .say of a crate
@@ -41,4 +41,21 @@ proves() { # LOG WHO HEAD CRATES COMMAND...
     rm -f "$mark"
     [ ! -t 2 ] || printf '\r\033[K' >&2
     return "$status"
+}
+
+# How many crates of this repository one is made of, by crates.txt, itself among them.
+crates_of() { # CRATE
+    awk -F : -v queue="$1" '
+        /^[a-z]/ { needs[$1] = $2 }
+        END {
+            last = split(queue, name, " ")
+            for (first = 1; first <= last; first++) {
+                if (!(name[first] in needs) || name[first] in seen) continue
+                seen[name[first]]
+                count++
+                more = split(needs[name[first]], below, " ")
+                for (k = 1; k <= more; k++) name[++last] = below[k]
+            }
+            print count
+        }' "$root/crates.txt"
 }
