@@ -43,19 +43,17 @@ proves() { # LOG WHO HEAD CRATES COMMAND...
     return "$status"
 }
 
-# How many crates of this repository one is made of, by crates.txt, itself among them.
-crates_of() { # CRATE
-    awk -F : -v queue="$1" '
-        /^[a-z]/ { needs[$1] = $2 }
-        END {
-            last = split(queue, name, " ")
-            for (first = 1; first <= last; first++) {
-                if (!(name[first] in needs) || name[first] in seen) continue
-                seen[name[first]]
-                count++
-                more = split(needs[name[first]], below, " ")
-                for (k = 1; k <= more; k++) name[++last] = below[k]
-            }
-            print count
-        }' "$root/crates.txt"
+# The crates of this repository that one is made of, itself last, each with what it depends on: the lines of crates.txt that it reaches.
+reached() { # CRATE
+    awk -v top="$1" '
+        { sub(/#.*/, ""); at = index($0, ":") }
+        at { name = substr($0, 1, at - 1); gsub(/[ \t]/, "", name); line[name] = substr($0, at + 1) }
+        function reach(name, words, n, k) {
+            if (!(name in line) || name in seen) return
+            seen[name]
+            n = split(line[name], words, " ")
+            for (k = 1; k <= n; k++) reach(words[k])
+            print name ":" line[name]
+        }
+        END { reach(top) }' "$root/crates.txt"
 }
