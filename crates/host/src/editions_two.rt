@@ -2,12 +2,11 @@
 ghost use mathlib.Core.Path.{_≡_};
 ghost use Rattle.editions.specs.Editions.{convert-answer, convert};
 ghost use Rattle.editions.specs.declared.Edition.the-variants.{Two, Three};
-ghost use Rattle.host.specs.Two.{read, write-answer, write};
-use crate::RawRecord;
-use crate::entries;
+ghost use Rattle.host_rules.specs.Two.{read, write-answer, write};
 use editions::Edition;
 use editions::converter;
 use event::Fields;
+use host_rules::RawRecord;
 use tape::Found;
 use tape::Read;
 
@@ -16,7 +15,7 @@ use tape::Read;
 pub extern "C" fn naszeptan_read_two(bytes: &[u8]) -> RawRecord
     ensures { λ r. ⌜ r ≡ read (now (bytes .entry)) ⌝ }
 {
-    entries::record_of(editions::read(Edition::Two, bytes))
+    host_parts::record_of(editions::read(Edition::Two, bytes))
 }
 
 // Fields as one record.

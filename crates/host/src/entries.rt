@@ -4,15 +4,14 @@ ghost use mathlib.Core.List.{List};
 ghost use Prim.Native.Nat.{ℕ};
 ghost use Rattle.machine.specs.Machine.{fresh};
 ghost use Rattle.crossing.specs.Crossing.{raw-machine};
-ghost use Rattle.host.specs.Host.{version, number, outcome, step, run, record-of, read, write-answer, write};
+ghost use Rattle.host_rules.specs.Host.{version, number, outcome, step, run, read, write-answer, write};
 ghost use Rattle.host.specs.Inner.{lone};
-use crate::RawDone;
-use crate::RawEnded;
-use crate::RawRecord;
 use crate::VERSION;
-use base::answer;
 use crossing::RawMachine;
 use event::Fields;
+use host_rules::RawDone;
+use host_rules::RawEnded;
+use host_rules::RawRecord;
 use machine::Machine;
 use step_rules::Done;
 use tape::Read;
@@ -37,13 +36,7 @@ pub extern "C" fn naszeptan_fresh() -> RawMachine
 pub extern "C" fn naszeptan_valid(m: RawMachine, len: usize) -> u8
     ensures { λ r. ⌜ r ≡ number m len ⌝ }
 {
-    if crossing::right(m) {
-        return validity::number(crossing::machine_of(m), len);
-    }
-    if validity::sized(crossing::machine_of(m), len) {
-        return answer::NO_MACHINE;
-    }
-    answer::SIZE
+    host_parts::number(m, len)
 }
 
 // Nothing was done, and no one failed.
@@ -97,7 +90,7 @@ pub extern "C" fn naszeptan_step(m: RawMachine, mem: &mut [u64], e: Fields) -> R
     let done = lone(before, mem, e);
     RawDone {
         answer: done.answer,
-        failed: crate::failed::failed(e, before, done),
+        failed: host_parts::failed::failed(e, before, done),
         machine: crossing::raw_machine(done.machine),
     }
 }
@@ -127,37 +120,12 @@ pub extern "C" fn naszeptan_run(m: RawMachine, mem: &mut [u64], tape: &[u8]) -> 
     }
 }
 
-// A reader's answer: a record's fields, or a number.
-pub fn record_of(found: Read) -> RawRecord
-    ensures { λ r. ⌜ r ≡ record-of found ⌝ }
-{
-    match found {
-        Read::Record { thread, event } => RawRecord {
-            answer: answer::DONE,
-            event: event::fields_of(thread, event),
-        },
-        Read::Refused(n) => RawRecord {
-            answer: n,
-            event: Fields {
-                kind: 0,
-                thread: 0,
-                x: 0,
-                ra: 0,
-                rb: 0,
-                flags: 0,
-                index: 0,
-                si: 0,
-            },
-        },
-    }
-}
-
 // One record as fields.
 #[no_mangle]
 pub extern "C" fn naszeptan_read(bytes: &[u8]) -> RawRecord
     ensures { λ r. ⌜ r ≡ read (now (bytes .entry)) ⌝ }
 {
-    record_of(tape::reader::read(bytes))
+    host_parts::record_of(tape::reader::read(bytes))
 }
 
 // Fields as one record.

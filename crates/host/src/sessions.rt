@@ -1,44 +1,15 @@
 // A tape in pieces: what a host calls (rule H10).
 ghost use mathlib.Core.Path.{_≡_};
 ghost use lib.Seq.{sets};
-ghost use Rattle.host.specs.Sessions.{session-of, raw-session, open-raw, feed, close};
-use crate::RawEnded;
-use crate::RawFed;
-use crate::RawSession;
+ghost use Rattle.host_rules.specs.Sessions.{open-raw, feed, close};
 use crate::entries;
 use crossing::RawMachine;
+use host_parts::raw_session;
+use host_parts::session_of;
+use host_rules::RawEnded;
+use host_rules::RawFed;
+use host_rules::RawSession;
 use session_rules::HELD;
-use session_rules::Session;
-
-fn session_of(s: RawSession) -> Session
-    ensures { λ r. ⌜ r ≡ session-of s ⌝ }
-{
-    let m = s.machine;
-    let bytes = s.bytes;
-    let machine = crossing::machine_of(m);
-    Session {
-        machine,
-        count: s.count,
-        held: s.held,
-        answer: s.answer,
-        bytes,
-    }
-}
-
-fn raw_session(s: Session) -> RawSession
-    ensures { λ r. ⌜ r ≡ raw-session s ⌝ }
-{
-    let m = s.machine;
-    let bytes = s.bytes;
-    let machine = crossing::raw_machine(m);
-    RawSession {
-        machine,
-        count: s.count,
-        held: s.held,
-        answer: s.answer,
-        bytes,
-    }
-}
 
 // A session on a machine; where it is refused its answer is the number.
 #[no_mangle]

@@ -2,8 +2,8 @@
 use mathlib.Core.Path.{_≡_, refl, ap}
 use mathlib.Core.List.{List}
 use Prim.Native.Nat.{ℕ}
-use Rattle.host.specs.Host.{number}
-use Rattle.host.specs.Sessions.{open-raw, feed, close}
+use Rattle.host_rules.specs.Host.{number}
+use Rattle.host_rules.specs.Sessions.{open-raw, feed, close}
 use Rattle.laws_host.specs.Pieces.{SessionForth, SessionBack, NoSessionMachine}
 use Rattle.laws_host.proofs.Crosses.{forth, back}
 

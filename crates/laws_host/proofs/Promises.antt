@@ -25,9 +25,9 @@ use Rattle.laws_run.proofs.Steps as steps
 use Rattle.crossing.specs.Crossing.{right, machine-of}
 use Rattle.crossing.specs.declared.RawMachine.{RawMachine}
 use Rattle.laws_host.proofs.Crosses.{back}
-use Rattle.host.specs.Failed.{live, fails, failed}
-use Rattle.host.specs.Host as host
-use Rattle.host.specs.Host.{number, met, outcome, event-read, step, run, record-of, read, write-answer-of, write-answer, write}
+use Rattle.host_rules.specs.Failed.{live, fails, failed}
+use Rattle.host_rules.specs.Host as host
+use Rattle.host_rules.specs.Host.{number, met, outcome, event-read, step, run, record-of, read, write-answer-of, write-answer, write}
 use Rattle.laws_host.specs.Promises.{NoMachine, StopChangesNothing, FailedEach, EventCrosses, ReadsWritten, WritesRead, KeepsRest}
 
 two : (m : RawMachine) (len : ℕ) → right m ≡ false → sized (machine-of m) len ≡ true → number m len ≡ 2

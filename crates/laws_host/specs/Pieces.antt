@@ -9,8 +9,8 @@ use Rattle.machine.specs.Valid.{sized}
 use Rattle.crossing.specs.Crossing.{right, machine-of}
 use Rattle.crossing.specs.declared.RawMachine.{RawMachine}
 use Rattle.session_rules.specs.declared.Session.{Session}
-use Rattle.host.specs.Sessions.{session-of, raw-session, no-session, open-raw, refused-feeding, feed, close}
-use Rattle.host.specs.declared.RawSession.{RawSession}
+use Rattle.host_rules.specs.Sessions.{session-of, raw-session, no-session, open-raw, refused-feeding, feed, close}
+use Rattle.host_rules.specs.declared.RawSession.{RawSession}
 
 -- a session that crosses and comes back is the same: between two pieces nothing of it is lost
 abbrev pub SessionForth : Type 0

@@ -17,8 +17,8 @@ use Rattle.tape.specs.declared.Read.the-variants.{Record}
 use Rattle.laws_round.specs.Round.{FieldsFit, Bytes}
 use Rattle.run_rules.specs.Run.{goes-on}
 use Rattle.crossing.specs.Crossing.{right, machine-of}
-use Rattle.host.specs.Failed.{fails, failed}
-use Rattle.host.specs.Host.{outcome, event-read, step, result, run, read, write-answer, write}
+use Rattle.host_rules.specs.Failed.{fails, failed}
+use Rattle.host_rules.specs.Host.{outcome, event-read, step, result, run, read, write-answer, write}
 use Rattle.crossing.specs.declared.RawMachine.{RawMachine}
 
 -- bits that are no machine are refused by 2, whatever the event and the tape, and nothing changes

@@ -5,16 +5,22 @@ ghost use Prim.Native.Nat.{ℕ, _<_};
 ghost use Rattle.base.specs.Limits.{gprs};
 ghost use Rattle.thread.specs.Thread.{recording, handling};
 ghost use Rattle.rows.specs.Rows.{head-of, thread-with, standing};
-ghost use Rattle.power_rules.specs.Common.{did, fails, dooms};
+ghost use Rattle.transaction.specs.declared.Cause.the-variants.{Footprint};
+ghost use Rattle.transaction.specs.declared.Transaction.{Transaction};
+ghost use Rattle.rows.specs.Landed.{landed};
+ghost use Rattle.power_rules.specs.Access.{meets-own};
+ghost use Rattle.power_rules.specs.Common.{did, quiet, fails, dooms};
 ghost use Rattle.power_common.specs.Inner.{advanced, told, shown, leveled, set-to, recorded, handled, row-or-0, row-cause};
 use base::CR_FIELDS;
 use base::GPRS;
 use base::answer;
 use rows::HEAD;
 use rows::Head;
+use rows::Went;
 use thread::Msr;
 use thread::State;
 use transaction::Cause;
+use transaction::Touch;
 
 // The thread goes on behind its instruction.
 pub fn advanced(h: Head) -> Head
@@ -180,6 +186,41 @@ pub fn dooms(words: &mut [u64; HEAD], h: Head, cause: Cause, exact: bool) -> u8
         return answer::DONE;
     }
     answer::RECORDED
+}
+
+// In S: an event that meets the thread's own sets fails its transaction.
+pub fn meets_own(words: &mut [u64; HEAD], met: bool, cause: Cause, exact: bool) -> u8
+    ensures { λ a. ⌜ ((gpr cr kgpr kcr ix vl : List ℕ) → did a (standing gpr cr kgpr kcr (now (words .exit)) ix vl) ≡ meets-own met (standing gpr cr kgpr kcr (now (words .entry)) ix vl) cause exact) ⌝ }
+{
+    if met {
+        let h = rows::read_head(&*words);
+        return dooms(&mut *words, h, cause, exact);
+    }
+    passes(&mut *words);
+    answer::DONE
+}
+
+// No room: the thread's own failure, and no line is touched.
+pub fn overflowed(
+    gpr: &mut [u64; GPRS],
+    cr: &mut [u8; CR_FIELDS],
+    kgpr: &[u64; GPRS],
+    kcr: &[u8; CR_FIELDS],
+    words: &mut [u64; HEAD],
+) -> Went
+    ensures { λ r. ⌜ ((ix vl mem : List ℕ) (x : Transaction) → record { answer = r .answer; thread = standing (now (gpr .exit)) (now (cr .exit)) (now (kgpr .entry)) (now (kcr .entry)) (now (words .exit)) ix vl; touch = r .touch; memory = mem } ≡ landed (quiet (fails (standing (now (gpr .entry)) (now (cr .entry)) (now (kgpr .entry)) (now (kcr .entry)) (now (words .entry)) ix vl) Footprint)) x mem) ⌝ }
+{
+    Went {
+        answer: fails(
+            &mut *gpr,
+            &mut *cr,
+            kgpr,
+            kcr,
+            &mut *words,
+            Cause::Footprint,
+        ),
+        touch: Touch::Untouched,
+    }
 }
 
 // Register RA, or 0 where RA = 0 names none.

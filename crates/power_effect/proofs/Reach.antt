@@ -12,7 +12,7 @@ use Rattle.event.specs.declared.Event.the-variants.{Tbegin, Tend, Tabort, Tabor
 use Rattle.event.proofs.Laws.{ld-in, std-in, lbz-in, lhz-in, lwz-in, stb-in, sth-in, stw-in}
 use Rattle.power_rules.specs.Common.{gpr}
 use Rattle.power_rules.specs.Access.{load, store}
-use Rattle.power_access.specs.Inner.{given}
+use Rattle.power_stores.specs.Inner.{given}
 use Rattle.power_effect.specs.declared.Access.{Access}
 use Rattle.power_effect.specs.declared.Access.the-variants.{Load, Store, Neither}
 use Rattle.step_rules.specs.Effects.{effect}

@@ -18,10 +18,10 @@ use event::Event;
 use power_aborts::tabort;
 use power_aborts::tabortdc;
 use power_aborts::tabortwc;
-use power_access::load;
-use power_access::narrow;
-use power_access::store;
+use power_loads::load;
 use power_rules::Did;
+use power_stores::narrow;
+use power_stores::store;
 use rows::HEAD;
 use rows::VALUES;
 use rows::Went;
@@ -201,7 +201,7 @@ fn other(
             let asked = Asked { t, s, tm, pr };
             quiet(power_returns::mtmsrd(gpr, cr, &*kgpr, &*kcr, words, asked))
         }
-        Event::Tlbie { page } => power_access::page::tlbie(gpr, cr, &*kgpr, &*kcr, words, page),
+        Event::Tlbie { page } => power_pages::tlbie(gpr, cr, &*kgpr, &*kcr, words, page),
         _ => quiet(0),
     }
 }

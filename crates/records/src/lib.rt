@@ -9,39 +9,22 @@ ghost use Rattle.tape.specs.Tape.{record-size, read};
 ghost use Rattle.tape.specs.FirstBad.{read-number, first-bad};
 ghost use Rattle.rows.specs.Rows.{rows, machine-of};
 ghost use Rattle.run_rules.specs.Inner.{filled};
-ghost use Rattle.run_rules.specs.Records.{result, goes-on, reads, one, play};
+ghost use Rattle.run_rules.specs.Records.{result, reads, one, play};
 use base::CR_FIELDS;
 use base::GPRS;
 use base::PLACES;
 use base::THREADS;
 use base::answer;
 use buffer::put;
+use counting::Stopped;
+use counting::counted;
 use machine::Machine;
 use rows::HEAD;
 use rows::VALUES;
 use tape::RECORD_SIZE;
 use tape::Read;
 
-// The run goes on after 0, 20 and 21.
-fn goes_on(answer: u8) -> bool
-    ensures { λ r. ⌜ r ≡ goes-on answer ⌝ }
-{
-    if answer == answer::DONE {
-        return true;
-    }
-    if answer == answer::HANDLED {
-        return true;
-    }
-    answer == answer::RECORDED
-}
-
-// The answer that ended a run, and how many records were done.
-pub struct Stopped {
-    pub answer: u8,
-    pub count: usize,
-}
-
-// One record read and done behind k others: a record that stops the run is not counted. The reader has judged it, so its refusal cannot come.
+// One record read and done behind k others. The reader has judged it, so its refusal cannot come.
 fn one(
     gpr: &mut [[u64; GPRS]; THREADS],
     cr: &mut [[u8; CR_FIELDS]; THREADS],
@@ -80,16 +63,7 @@ fn one(
         thread,
         event,
     );
-    if goes_on(a) {
-        return Stopped {
-            answer: a,
-            count: k + 1,
-        };
-    }
-    Stopped {
-        answer: a,
-        count: k,
-    }
+    counted(a, k)
 }
 
 // The records of a tape, none of them bad, on rows whose machine is valid: it stays so, and is not tested again.

@@ -6,14 +6,12 @@ ghost use Rattle.text.specs.Text.{text};
 use base::MEMORY;
 use base::answer;
 use tape::RECORD_SIZE;
+use text_lines::LONGEST;
 use text_lines::append;
 use text_lines::bad_line;
 use text_lines::end_line;
 use text_lines::lines;
 use text_lines::read_of;
-
-// The longest input that is run; no text is longer. specs/Lines.antt of text_lines has the same number.
-pub const LONGEST: usize = 65536;
 
 // The most records of a tape that is run.
 const RECORDS: usize = LONGEST / RECORD_SIZE;

@@ -7,6 +7,9 @@ ghost use lib.ListN.{length};
 ghost use Rattle.text_lines.specs.Inner.{Appended, most-records};
 ghost use Rattle.text_lines.specs.Lines.{longest, digit, decimal, line, bad-line, end-line, lines};
 
+// The longest input that is run; no text is longer. specs/Lines.antt has the same number.
+pub const LONGEST: usize = 65536;
+
 // Bytes put into out from place `at` on, as far as it has such places; the answer is the place behind them.
 pub fn append(out: &mut [u8], at: usize, bytes: &[u8]) -> usize
     requires { ⌜ at + length (now bytes) ≤ longest ⌝ }

@@ -7,8 +7,7 @@ use Rattle.rows.specs.Rows.{rows, machine-of}
 use Rattle.tape.specs.Tape.{number}
 use Rattle.tape.specs.declared.Read.{Read}
 use Rattle.step_rules.specs.Step.{Outcome, step}
-use Rattle.run_rules.specs.Records.{result, goes-on, one}
-use Rattle.run_rules.proofs.Records.{is-counted, not-counted}
+use Rattle.run_rules.specs.Records.{result, counted, one}
 use borrow.Author.Needs.{needs}
 use Rattle.records.proofs.one.Statement.{statement}
 use Rattle.records.proofs.one.Tie as tie
@@ -42,11 +41,8 @@ returns c =
 step-requires : tie.Need-step-requires
 step-requires c κs = search needs
 
-goes-on-requires : tie.Need-goes-on-requires
-goes-on-requires c κs = search needs
-
-add-t27 : tie.Need-add-t27
-add-t27 c = search needs
+counted-requires : tie.Need-counted-requires
+counted-requires c κs = search needs
 
 same-length : tie.Need-same-length
 same-length c = search needs
@@ -54,29 +50,13 @@ same-length c = search needs
 returns-2 : tie.Need-returns-2
 unfolding one
 returns-2 c =
-    let t = c .before .before .before .before in
+    let t = c .before .before .before in
     let f = t .before .before .before .before .before .before .before .before .before .before in
     let r = f .before .before in
     let s = r .before .before .before in
-    let o = step (machine-at s) (s .args .mem .now) (f .found .given .0 .0) (f .found .given .0 .1 .0) in
-    let g = ap (λ (x : Outcome). goes-on (x .done .answer)) (sym (t .step .ensures)) ∙ sym (c .before .goes-on .ensures) ∙ c .if1 .taken in
-    ap (λ (x : Outcome). result (x .done .answer) (s .args .k + 1) (x .done .machine) (x .memory) (x .done .answer ∷ [])) (t .step .ensures)
-    ∙ sym (ap (λ (x : Read). one x (machine-at s) (s .args .mem .now) (s .args .k)) (sym (r .read-judged .ensures) ∙ f .found .given .1) ∙ is-counted o (s .args .k) g)
-
-same-length-2 : tie.Need-same-length-2
-same-length-2 c = search needs
-
-returns-3 : tie.Need-returns-3
-unfolding one
-returns-3 c =
-    let t = c .before .before .before .before in
-    let f = t .before .before .before .before .before .before .before .before .before .before in
-    let r = f .before .before in
-    let s = r .before .before .before in
-    let o = step (machine-at s) (s .args .mem .now) (f .found .given .0 .0) (f .found .given .0 .1 .0) in
-    let g = ap (λ (x : Outcome). goes-on (x .done .answer)) (sym (t .step .ensures)) ∙ sym (c .before .goes-on .ensures) ∙ c .if1 .left in
-    ap (λ (x : Outcome). result (x .done .answer) (s .args .k) (x .done .machine) (x .memory) (x .done .answer ∷ [])) (t .step .ensures)
-    ∙ sym (ap (λ (x : Read). one x (machine-at s) (s .args .mem .now) (s .args .k)) (sym (r .read-judged .ensures) ∙ f .found .given .1) ∙ not-counted o (s .args .k) g)
+    c .counted .ensures _ _
+    ∙ ap (λ (x : Outcome). counted x (s .args .k)) (t .step .ensures)
+    ∙ sym (ap (λ (x : Read). one x (machine-at s) (s .args .mem .now) (s .args .k)) (sym (r .read-judged .ensures) ∙ f .found .given .1))
 
 pub one-spec : {M : Type 1} → statement M
 one-spec =
@@ -88,9 +68,6 @@ one-spec =
     number-requires
     returns
     step-requires
-    goes-on-requires
-    add-t27
+    counted-requires
     same-length
-    returns-2
-    same-length-2
-    returns-3)
+    returns-2)

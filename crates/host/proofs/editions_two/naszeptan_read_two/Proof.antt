@@ -1,7 +1,7 @@
 -- `host::editions_two::naszeptan_read_two` meets its contract.
 use mathlib.Core.Path.{ap, _∙_}
-use Rattle.host.specs.Host.{record-of}
-use Rattle.host.specs.Two.{read}
+use Rattle.host_rules.specs.Host.{record-of}
+use Rattle.host_rules.specs.Two.{read}
 use borrow.Author.Needs.{needs}
 use Rattle.host.proofs.editions_two.naszeptan_read_two.Statement.{statement}
 use Rattle.host.proofs.editions_two.naszeptan_read_two.Tie as tie

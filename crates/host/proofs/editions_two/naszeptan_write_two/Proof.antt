@@ -1,6 +1,6 @@
 -- `host::editions_two::naszeptan_write_two` meets its contract.
 use mathlib.Core.Path.{sym, _∙_}
-use Rattle.host.specs.Two.{write, write-answer}
+use Rattle.host_rules.specs.Two.{write, write-answer}
 use borrow.Author.Needs.{needs}
 use Rattle.host.proofs.editions_two.naszeptan_write_two.Statement.{statement}
 use Rattle.host.proofs.editions_two.naszeptan_write_two.Tie as tie

@@ -1,6 +1,6 @@
 -- `host::entries::naszeptan_read` meets its contract.
 use mathlib.Core.Path.{ap, _∙_}
-use Rattle.host.specs.Host.{record-of, read}
+use Rattle.host_rules.specs.Host.{record-of, read}
 use borrow.Author.Needs.{needs}
 use Rattle.host.proofs.entries.naszeptan_read.Statement.{statement}
 use Rattle.host.proofs.entries.naszeptan_read.Tie as tie

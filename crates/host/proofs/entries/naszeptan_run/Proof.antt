@@ -1,6 +1,6 @@
 -- `host::entries::naszeptan_run` meets its contract.
 use Rattle.base.proofs.Below.{flag-true, flag-false}
-use Rattle.host.specs.Host.{run}
+use Rattle.host_rules.specs.Host.{run}
 use borrow.Author.Needs.{needs}
 use Rattle.host.proofs.entries.naszeptan_run.Statement.{statement}
 use Rattle.host.proofs.entries.naszeptan_run.Tie as tie

@@ -4,7 +4,7 @@ use Rattle.base.proofs.Below.{flag-true, flag-false}
 use Rattle.step_rules.specs.Step.{Outcome}
 use Rattle.laws_round.specs.Round.{FieldsFit}
 use Rattle.crossing.specs.Crossing.{machine-of}
-use Rattle.host.specs.Host.{crossed, step}
+use Rattle.host_rules.specs.Host.{crossed, step}
 use Rattle.host.proofs.Laws.{run-of-one}
 use borrow.Author.Needs.{needs}
 use Rattle.host.proofs.entries.naszeptan_step.Statement.{statement}

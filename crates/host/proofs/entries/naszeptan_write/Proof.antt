@@ -1,6 +1,6 @@
 -- `host::entries::naszeptan_write` meets its contract.
 use mathlib.Core.Path.{sym, _∙_}
-use Rattle.host.specs.Host.{write, write-answer}
+use Rattle.host_rules.specs.Host.{write, write-answer}
 use borrow.Author.Needs.{needs}
 use Rattle.host.proofs.entries.naszeptan_write.Statement.{statement}
 use Rattle.host.proofs.entries.naszeptan_write.Tie as tie

@@ -7,9 +7,9 @@ use Rattle.crossing.specs.Crossing.{raw-machine}
 use Rattle.run_rules.specs.declared.Ended.{Ended}
 use Rattle.session_rules.specs.Session as session
 use Rattle.session_rules.specs.declared.Session.{Session}
-use Rattle.host.specs.Host.{number}
-use Rattle.host.specs.declared.RawEnded.{RawEnded}
-use Rattle.host.specs.Sessions.{session-of, crossed-ended, close}
+use Rattle.host_rules.specs.Host.{number}
+use Rattle.host_rules.specs.declared.RawEnded.{RawEnded}
+use Rattle.host_rules.specs.Sessions.{session-of, crossed-ended, close}
 use borrow.Author.Needs.{needs}
 use Rattle.host.proofs.sessions.naszeptan_close.Statement.{statement}
 use Rattle.host.proofs.sessions.naszeptan_close.Tie as tie

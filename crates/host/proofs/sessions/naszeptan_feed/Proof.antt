@@ -9,8 +9,8 @@ use Rattle.base.proofs.Below.{flag-true, flag-false}
 use Rattle.crossing.specs.Crossing.{right}
 use Rattle.session_rules.specs.Session as session
 use Rattle.session_rules.specs.declared.Session.{Session}
-use Rattle.host.specs.Host.{number}
-use Rattle.host.specs.Sessions.{session-of, raw-session, RawFeeding, crossed-fed, crossed-feeding, refused-feeding, feed}
+use Rattle.host_rules.specs.Host.{number}
+use Rattle.host_rules.specs.Sessions.{session-of, raw-session, RawFeeding, crossed-fed, crossed-feeding, refused-feeding, feed}
 use borrow.Author.Needs.{needs}
 use Rattle.host.proofs.sessions.naszeptan_feed.Statement.{statement}
 use Rattle.host.proofs.sessions.naszeptan_feed.Tie as tie

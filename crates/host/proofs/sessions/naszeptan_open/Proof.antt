@@ -4,8 +4,8 @@ use mathlib.Core.Bool.{Bool, cond}
 use Prim.Native.Nat.{ℕ}
 use Rattle.crossing.specs.Crossing.{machine-of}
 use Rattle.session_rules.specs.Session.{opened}
-use Rattle.host.specs.Host.{number}
-use Rattle.host.specs.Sessions.{raw-session, no-session, open-raw}
+use Rattle.host_rules.specs.Host.{number}
+use Rattle.host_rules.specs.Sessions.{raw-session, no-session, open-raw}
 use borrow.Author.Needs.{needs}
 use Rattle.host.proofs.sessions.naszeptan_open.Statement.{statement}
 use Rattle.host.proofs.sessions.naszeptan_open.Tie as tie

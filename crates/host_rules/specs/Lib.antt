@@ -1,0 +1,4 @@
+pub mod Failed
+pub mod Host
+pub mod Sessions
+pub mod Two
