@@ -1,8 +1,8 @@
--- Laws of the text: that the fresh machine is valid, the answers of its run, and how long the text is.
+-- Laws of the text: the text of input that is not run, that the fresh machine is valid, the answers of its run, and how long the text is.
 use mathlib.Core.Path.{_≡_, refl, sym, ap, _∙_}
-use mathlib.Core.Bool.{Bool, true, not, cond}
+use mathlib.Core.Bool.{Bool, true, false, not, cond}
 use mathlib.Core.Logic.{⊎-elim}
-use mathlib.Core.List.{List}
+use mathlib.Core.List.{List, []}
 use Prim.Native.Nat.{ℕ, _+_, _/_, _≤_}
 use native.Mathlib.Omega.{arith}
 use borrow.Author.Tests.{lt-ltb, le-ltb, eqb-true, ltb-false, not-false}
@@ -22,7 +22,19 @@ use Rattle.laws_run.specs.Steps.{Answered}
 use Rattle.laws_run.proofs.Counts.{one-answer-each}
 use Rattle.text_lines.specs.Lines.{longest}
 use Rattle.text_lines.proofs.Laws.{bad-line-fits, end-line-fits, lines-fit}
+use Rattle.text_refused.specs.Inner.{refused}
 use Rattle.text.specs.Text.{text}
+
+-- where one of two tests passes, it is all one what stands behind them
+else-alone : (a b : Bool) (x y z : List ℕ) → (length (cond a x (cond b y [])) ≡ 0 → ⊥) → cond a x (cond b y []) ≡ cond a x (cond b y z)
+else-alone true b x y z h = refl
+else-alone false true x y z h = refl
+else-alone false false x y z h = absurd (h refl)
+
+-- the text of input that is not run is all of its text
+pub text-refused : (input : List ℕ) → (length (refused input) ≡ 0 → ⊥) → refused input ≡ text input
+unfolding refused text
+text-refused input h = else-alone (ltb longest (length input)) (not (eqb (bad-record input .answer) 0)) _ _ _ h
 
 -- the fresh machine is valid over its memory
 pub fresh-valid : valid.valid fresh most-memory ≡ true
