@@ -1,8 +1,8 @@
--- `refusal::turned_down` meets its contract.
+-- `refusal_there::turned_down` meets its contract.
 use Rattle.step_rules.specs.Refusal.{turned-down}
 use borrow.Author.Needs.{needs}
-use Rattle.refusal.proofs.turned_down.Statement.{statement}
-use Rattle.refusal.proofs.turned_down.Tie as tie
+use Rattle.refusal_there.proofs.turned_down.Statement.{statement}
+use Rattle.refusal_there.proofs.turned_down.Tie as tie
 
 enum-told : tie.Need-enum-told
 enum-told c = search needs

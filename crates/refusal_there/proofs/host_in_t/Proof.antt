@@ -1,8 +1,8 @@
--- `refusal::host_in_t` meets its contract.
+-- `refusal_there::host_in_t` meets its contract.
 use borrow.Author.Tests.{eq-eqb, ne-eqb}
 use borrow.Author.Needs.{needs}
-use Rattle.refusal.proofs.host_in_t.Statement.{statement}
-use Rattle.refusal.proofs.host_in_t.Tie as tie
+use Rattle.refusal_there.proofs.host_in_t.Statement.{statement}
+use Rattle.refusal_there.proofs.host_in_t.Tie as tie
 
 returns : tie.Need-returns
 returns c = simp (ne-eqb _ _ (c .if1 .taken))

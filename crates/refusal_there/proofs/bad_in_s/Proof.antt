@@ -1,8 +1,8 @@
--- `refusal::bad_in_s` meets its contract.
+-- `refusal_there::bad_in_s` meets its contract.
 use borrow.Author.Tests.{eq-eqb, ne-eqb}
 use Rattle.step_rules.specs.Refusal.{bad-thing}
-use Rattle.refusal.proofs.bad_in_s.Statement.{statement}
-use Rattle.refusal.proofs.bad_in_s.Tie as tie
+use Rattle.refusal_there.proofs.bad_in_s.Statement.{statement}
+use Rattle.refusal_there.proofs.bad_in_s.Tie as tie
 
 returns : tie.Need-returns
 unfolding bad-thing

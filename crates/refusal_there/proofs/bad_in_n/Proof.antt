@@ -1,9 +1,9 @@
--- `refusal::bad_in_n` meets its contract.
+-- `refusal_there::bad_in_n` meets its contract.
 use borrow.Author.Tests.{eq-eqb, ne-eqb}
 use Rattle.step_rules.specs.Refusal.{bad-thing}
 use borrow.Author.Needs.{needs}
-use Rattle.refusal.proofs.bad_in_n.Statement.{statement}
-use Rattle.refusal.proofs.bad_in_n.Tie as tie
+use Rattle.refusal_there.proofs.bad_in_n.Statement.{statement}
+use Rattle.refusal_there.proofs.bad_in_n.Tie as tie
 
 returns : tie.Need-returns
 unfolding bad-thing

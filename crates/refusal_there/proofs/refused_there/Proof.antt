@@ -1,9 +1,9 @@
--- `refusal::refused_there` meets its contract.
+-- `refusal_there::refused_there` meets its contract.
 use Rattle.step_rules.specs.Refusal.{refused-there}
 use mathlib.Core.Path.{sym, _∙_}
 use borrow.Author.Needs.{needs}
-use Rattle.refusal.proofs.refused_there.Statement.{statement}
-use Rattle.refusal.proofs.refused_there.Tie as tie
+use Rattle.refusal_there.proofs.refused_there.Statement.{statement}
+use Rattle.refusal_there.proofs.refused_there.Tie as tie
 
 kind-requires : tie.Need-kind-requires
 kind-requires c κs = search needs

@@ -1,7 +1,7 @@
--- `refusal::off` meets its contract.
+-- `refusal_there::off` meets its contract.
 use borrow.Author.Needs.{needs}
-use Rattle.refusal.proofs.off.Statement.{statement}
-use Rattle.refusal.proofs.off.Tie as tie
+use Rattle.refusal_there.proofs.off.Statement.{statement}
+use Rattle.refusal_there.proofs.off.Tie as tie
 
 returns : tie.Need-returns
 returns c = simp (c .if1 .taken)

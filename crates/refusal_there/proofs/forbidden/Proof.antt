@@ -1,7 +1,7 @@
--- `refusal::forbidden` meets its contract.
+-- `refusal_there::forbidden` meets its contract.
 use borrow.Author.Needs.{needs}
-use Rattle.refusal.proofs.forbidden.Statement.{statement}
-use Rattle.refusal.proofs.forbidden.Tie as tie
+use Rattle.refusal_there.proofs.forbidden.Statement.{statement}
+use Rattle.refusal_there.proofs.forbidden.Tie as tie
 
 privileged-requires : tie.Need-privileged-requires
 privileged-requires c κs = search needs

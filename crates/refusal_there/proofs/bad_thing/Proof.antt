@@ -1,8 +1,8 @@
--- `refusal::bad_thing` meets its contract.
+-- `refusal_there::bad_thing` meets its contract.
 use Rattle.step_rules.specs.Refusal.{bad-thing}
 use borrow.Author.Needs.{needs}
-use Rattle.refusal.proofs.bad_thing.Statement.{statement}
-use Rattle.refusal.proofs.bad_thing.Tie as tie
+use Rattle.refusal_there.proofs.bad_thing.Statement.{statement}
+use Rattle.refusal_there.proofs.bad_thing.Tie as tie
 
 enum-told : tie.Need-enum-told
 enum-told c = search needs
