@@ -2,4 +2,3 @@ pub mod Fields
 pub mod Table
 pub mod Render
 pub mod Judge
-pub mod Raw

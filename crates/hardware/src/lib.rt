@@ -1,8 +1,6 @@
 // A failure that an event recorded, as a POWER processor shows it, and a value read on one judged against it (rules B1 to B9). The bits of
 // TEXASR that the Power ISA text fixes, and those that it leaves free: docs/ISA-DIFFERENCES.md has the reasons.
 pub mod fields;
-pub mod judge;
-pub mod raw;
 pub mod render;
 pub mod table;
 

@@ -1,17 +1,17 @@
-// A failure as a POWER processor shows it, and a value read on one judged (rules B1 to B9): crate `hardware` for hosts.
+// A failure as a POWER processor shows it, and a value read on one judged (rules B1 to B9): crates `hardware` and `verdict` for hosts.
 ghost use mathlib.Core.Path.{_≡_};
-ghost use Rattle.hardware.specs.Raw.{show, compare};
-use hardware::raw::RawProfile;
-use hardware::raw::RawRegisters;
-use hardware::raw::RawShown;
-use hardware::raw::RawVerdict;
+ghost use Rattle.verdict.specs.Raw.{show, compare};
+use verdict::raw::RawProfile;
+use verdict::raw::RawRegisters;
+use verdict::raw::RawShown;
+use verdict::raw::RawVerdict;
 
 // What hardware shows for a TEXASR of the model, and the bits that are fixed.
 #[no_mangle]
 pub extern "C" fn naszeptan_on_hardware(p: RawProfile, texasr: u64) -> RawShown
     ensures { λ r. ⌜ r ≡ show p texasr ⌝ }
 {
-    hardware::raw::show(p, texasr)
+    verdict::raw::show(p, texasr)
 }
 
 // The registers read on hardware against the model's.
@@ -23,5 +23,5 @@ pub extern "C" fn naszeptan_compare(
 ) -> RawVerdict
     ensures { λ r. ⌜ r ≡ compare p model hardware ⌝ }
 {
-    hardware::raw::compare(p, model, hardware)
+    verdict::raw::compare(p, model, hardware)
 }
