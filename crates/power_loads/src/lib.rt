@@ -56,7 +56,7 @@ fn takes(
     ensures { λ _. ⌜ ((cr kgpr kcr : List ℕ) → did answer.done (standing (now (gpr .exit)) cr kgpr kcr (now (words .exit)) (now (ix .entry)) (now (vl .entry))) ≡ takes (standing (now (gpr .entry)) cr kgpr kcr (now (words .entry)) (now (ix .entry)) (now (vl .entry))) rt index low width (now (mem .entry))) ⌝ }
 {
     let count = words[9] as usize;
-    let seen = rows_hold::load(ix, vl, count, index, mem);
+    let seen = rows_log::load(ix, vl, count, index, mem);
     gpr[rt as usize] = doubleword::part(low, width, seen);
     place::passes(&mut *words);
 }

@@ -45,11 +45,11 @@ fn logs(
         return place::overflowed(&mut *gpr, &mut *cr, kgpr, kcr, &mut *words);
     }
     let count = words[9] as usize;
-    let at = rows_hold::lookup(&*ix, count, index);
-    if rows_hold::full(at, count) {
+    let at = rows_log::lookup(&*ix, count, index);
+    if rows_log::full(at, count) {
         return place::overflowed(&mut *gpr, &mut *cr, kgpr, kcr, &mut *words);
     }
-    rows_hold::logged(&mut *words, &mut *ix, &mut *vl, at, index, marks, value);
+    rows_log::logged(&mut *words, &mut *ix, &mut *vl, at, index, marks, value);
     place::passes(&mut *words);
     Went {
         answer: answer::DONE,

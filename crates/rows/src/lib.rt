@@ -1,6 +1,6 @@
 // A thread as rows of numbers that are lent and changed in place. The row of words holds all but the registers, the checkpoint and the log.
 ghost use mathlib.Core.Path.{_≡_};
-ghost use Prim.Native.Nat.{_+_, _/_, _%_, _≤_, _<_};
+ghost use Prim.Native.Nat.{_+_, _/_, _%_, _^_, _≤_, _<_};
 ghost use lib.ListN.{length, getD};
 ghost use Rattle.base.specs.Limits as limits;
 ghost use Rattle.base.specs.Limits.{lines};
@@ -62,6 +62,13 @@ pub fn state_number(s: State) -> u64
         State::T => 1,
         State::S => 2,
     }
+}
+
+// The marks of a place: their word's low byte.
+pub fn marks(word: u64) -> u8
+    ensures { λ r. ⌜ r ≡ word % 2 ^ 8 ⌝ }
+{
+    (word % 256) as u8
 }
 
 pub fn read_head(r: &[u64; HEAD]) -> Head

@@ -1,5 +1,5 @@
 // What a transaction holds: read set, write set and log (rules M9 to M13); what an event can touch and write, and causes. A log on rows
-// that are lent: crate `rows_hold`.
+// that are lent: crates `rows_log` and `rows_hold`.
 ghost use mathlib.Core.Path.{_≡_};
 ghost use Rattle.transaction.specs.Transaction.{empty, discard};
 use base::PLACES;

@@ -1,4 +1,4 @@
--- `rows_hold::load` meets its contract.
+-- `rows_log::load` meets its contract.
 use Prim.Native.Nat.{ℕ, _<_}
 use borrow.Author.Needs.{needs}
 use lib.ListN.{getD}
@@ -12,8 +12,8 @@ use Rattle.transaction.specs.Transaction.{lookup-in, loaded}
 use Rattle.transaction.specs.declared.Entry.{Entry}
 use Rattle.transaction.specs.declared.Found.the-variants.{At}
 use Rattle.transaction.specs.declared.Found.{Found}
-use Rattle.rows_hold.proofs.load.Statement.{statement}
-use Rattle.rows_hold.proofs.load.Tie as tie
+use Rattle.rows_log.proofs.load.Statement.{statement}
+use Rattle.rows_log.proofs.load.Tie as tie
 
 -- the place that was found, among those used
 found : (c : tie.After-n) → let s = c .before .before .before .before in

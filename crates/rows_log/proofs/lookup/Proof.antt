@@ -1,4 +1,4 @@
--- `rows_hold::lookup` meets its contract.
+-- `rows_log::lookup` meets its contract.
 use Prim.Native.Nat.{ℕ, _≤_, _-_}
 use borrow.Author.Needs.{needs}
 use borrow.Author.Tests.{eq-eqb, ne-eqb}
@@ -14,8 +14,8 @@ use Rattle.transaction.proofs.Laws.{lookup-step, lookup-none}
 use Rattle.transaction.specs.Transaction.{entry, lookup-in}
 use Rattle.transaction.specs.declared.Entry.{Entry}
 use Rattle.transaction.specs.declared.Found.the-variants.{At}
-use Rattle.rows_hold.proofs.lookup.Statement.{statement}
-use Rattle.rows_hold.proofs.lookup.Tie as tie
+use Rattle.rows_log.proofs.lookup.Statement.{statement}
+use Rattle.rows_log.proofs.lookup.Tie as tie
 
 abbrev Inv-loop : tie.InvT-loop
 Inv-loop ix count index n₀ n = (n ≤ count) × ((vl : List ℕ) → lookup-in (log-of ix vl count) index count ≡ lookup-in (log-of ix vl count) index n)

@@ -1,4 +1,4 @@
--- `rows_hold::logged` meets its contract.
+-- `rows_log::logged` meets its contract.
 use Prim.Native.Nat.{_+_, _%_, _^_, _<_}
 use borrow.Author.Needs.{needs}
 use borrow.Author.Tests.{leb-false}
@@ -15,8 +15,8 @@ use Rattle.thread.specs.Thread.{with-transaction}
 use Rattle.transaction.proofs.Laws.{lookup-below, lookup-there}
 use Rattle.transaction.specs.Transaction.{line, full, stored, store-at}
 use Rattle.transaction.specs.declared.Entry.{Entry}
-use Rattle.rows_hold.proofs.logged.Statement.{statement}
-use Rattle.rows_hold.proofs.logged.Tie as tie
+use Rattle.rows_log.proofs.logged.Statement.{statement}
+use Rattle.rows_log.proofs.logged.Tie as tie
 
 -- the place that was found is a used one, and holds the doubleword
 used : (c : tie.After-at) → let s = c .before .before .before .before .before .before .before .before in

@@ -1,8 +1,8 @@
--- `rows_hold::full` meets its contract.
+-- `rows_log::full` meets its contract.
 use borrow.Author.Needs.{needs}
 use Rattle.transaction.specs.Transaction.{full}
-use Rattle.rows_hold.proofs.full.Statement.{statement}
-use Rattle.rows_hold.proofs.full.Tie as tie
+use Rattle.rows_log.proofs.full.Statement.{statement}
+use Rattle.rows_log.proofs.full.Tie as tie
 
 enum-told : tie.Need-enum-told
 enum-told c = search needs
