@@ -1,6 +1,6 @@
--- Laws of conflicts: one turn of the strike, which goes up through the threads; a thread that is not met; the accessor's own thread.
+-- Laws of conflicts: the masks of what is touched; one turn of the strike, which goes up through the threads; the accessor's own thread.
 use mathlib.Core.Path.{_≡_, refl, sym, ap, _∙_}
-use mathlib.Core.Bool.{Bool, true, false, cond, _&&_, _||_, and-false, or-false}
+use mathlib.Core.Bool.{Bool, true, false, cond, _||_, or-false}
 use mathlib.Core.List.{List}
 use Prim.Native.Nat.{ℕ, zero, suc, _+_, _/_, _≤_}
 use native.Mathlib.Decide.{ℕ-discrete}
@@ -18,12 +18,11 @@ use Rattle.transaction.specs.declared.Cause.{Cause}
 use Rattle.transaction.specs.declared.Cause.the-variants.{Translation}
 use Rattle.transaction.specs.declared.Touch.{Touch}
 use Rattle.transaction.specs.declared.Touch.the-variants.{Untouched, Load, Store, Page}
-use Rattle.thread.specs.Thread.{is-live, felled}
-use Rattle.thread.specs.declared.State.{State}
 use Rattle.thread.specs.declared.Thread.{Thread}
 use Rattle.machine.specs.Machine.{thread, no-thread}
 use Rattle.step_rules.specs.Conflict.{hits, conflict-cause, struck, strike, others}
-use Rattle.conflict.specs.Inner.{Stands, others-from}
+use Rattle.conflict_one.specs.Inner.{Stands}
+use Rattle.conflict.specs.Inner.{others-from}
 
 -- a line, loaded or stored, and a page have masks that stand for them
 pub load-stands : (l : ℕ) → Stands (Load l) false (l / 64) (line-mask l)
@@ -37,14 +36,6 @@ store-stands l x = λ j. sym (shared-line (x .writes) l) j || sym (shared-line (
 pub page-stands : (p : ℕ) → Stands (Page p) true (p / 2) (page-mask p)
 unfolding hits
 page-stands p x = λ j. sym (shared-page (x .writes) p) j || sym (shared-page (x .reads) p) j
-
-module _ (t : Thread) (touch : Touch) (cause : Cause) (s : State) where
-  pub struck-is : (b : Bool) → hits (t .transaction) touch ≡ b → struck s t touch cause ≡ cond (is-live s (t .control .msr .doomed) && b) (felled s t cause) t
-  unfolding struck
-  struck-is b q = ap (λ (x : Bool). cond (is-live s (t .control .msr .doomed) && x) (felled s t cause) t) q
-
-  pub unstruck : hits (t .transaction) touch ≡ false → struck s t touch cause ≡ t
-  unstruck q = struck-is false q ∙ ap (λ (b : Bool). cond b (felled s t cause) t) (and-false (is-live s (t .control .msr .doomed)))
 
 module _ (ts : List Thread) (w : ℕ) (touch : Touch) (cause : Cause) where
   pub strike-none : ts ≡ strike ts w touch cause 0

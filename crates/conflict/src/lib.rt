@@ -1,7 +1,7 @@
 // Conflicts with the other threads (rules A3 and A6), in place: where no set is met nothing is touched. A line and a page are both a mask for
 // one word of a set, so that the scan looks at one word of each other thread, or two where read sets count.
 ghost use mathlib.Core.Path.{_≡_};
-ghost use mathlib.Core.Bool.{true, cond};
+ghost use mathlib.Core.Bool.{cond};
 ghost use mathlib.Core.List.{List};
 ghost use Prim.Native.Nat.{ℕ, _<_};
 ghost use lib.Dec.{eqb};
@@ -11,9 +11,10 @@ ghost use Rattle.base.specs.Limits.{most-threads};
 ghost use Rattle.transaction.specs.Inner.{Lined};
 ghost use Rattle.transaction.specs.declared.Touch.{Touch};
 ghost use Rattle.machine.specs.Machine.{thread};
-ghost use Rattle.rows.specs.Rows.{head-of, held, standing, rows, threads-of};
-ghost use Rattle.step_rules.specs.Conflict.{hits, conflict-cause, struck, strike};
-ghost use Rattle.conflict.specs.Inner.{hit, Stands, others-from};
+ghost use Rattle.rows.specs.Rows.{rows, threads-of};
+ghost use Rattle.step_rules.specs.Conflict.{struck, strike};
+ghost use Rattle.conflict_one.specs.Inner.{Stands};
+ghost use Rattle.conflict.specs.Inner.{others-from};
 use base::CR_FIELDS;
 use base::GPRS;
 use base::THREADS;
@@ -28,80 +29,6 @@ const READERS_OF_LOAD: bool = false;
 const READERS_OF_STORE: bool = true;
 
 const READERS_OF_PAGE: bool = true;
-
-// A mask for word k meets the thread's write set, or, where read sets count, its read set.
-fn hit(words: &[u64; HEAD], stores: bool, k: usize, mask: u64) -> bool
-    requires { ⌜ k < limits.words ⌝ }
-    ensures { λ b. ⌜ b ≡ hit (head-of (now (words .entry))) stores k mask ⌝ }
-{
-    if rows::has_masked(words, 14, k, mask) {
-        return true;
-    }
-    if stores {
-        return rows::has_masked(words, 10, k, mask);
-    }
-    false
-}
-
-// The cause by the state that the access is made in.
-fn conflict_cause(s: State) -> Cause
-    ensures { λ r. ⌜ r ≡ conflict-cause s ⌝ }
-{
-    match s {
-        State::N => Cause::PlainConflict,
-        State::T => Cause::Conflict,
-        State::S => Cause::PlainConflict,
-    }
-}
-
-// A transaction that is met fails if it is live: in T it is handled too, in S it waits for tresume.
-fn felled(
-    gpr: &mut [u64; GPRS],
-    cr: &mut [u8; CR_FIELDS],
-    kgpr: &[u64; GPRS],
-    kcr: &[u8; CR_FIELDS],
-    words: &mut [u64; HEAD],
-    cause: Cause,
-)
-    ensures { λ _. ⌜ ((ix vl : List ℕ) (touch : Touch) → hits (held (head-of (now (words .entry))) ix vl) touch ≡ true → standing (now (gpr .exit)) (now (cr .exit)) (now (kgpr .entry)) (now (kcr .entry)) (now (words .exit)) ix vl ≡ struck (head-of (now (words .entry)) .control .msr .state) (standing (now (gpr .entry)) (now (cr .entry)) (now (kgpr .entry)) (now (kcr .entry)) (now (words .entry)) ix vl) touch cause) ⌝ }
-{
-    let h = rows::read_head(&*words);
-    let k = h.control;
-    let m = k.msr;
-    let s = m.state;
-    match s {
-        State::N => {}
-        State::T => {
-            power_common::place::failed(&mut *gpr, &mut *cr, kgpr, kcr, &mut *words, cause, false);
-        }
-        State::S => {
-            if m.doomed {
-                return;
-            }
-            rows::write_head(&mut *words, power_common::place::recorded(h, cause, false));
-        }
-    }
-}
-
-// One of the others: only one that is met is touched.
-fn struck(
-    gpr: &mut [u64; GPRS],
-    cr: &mut [u8; CR_FIELDS],
-    kgpr: &[u64; GPRS],
-    kcr: &[u8; CR_FIELDS],
-    words: &mut [u64; HEAD],
-    stores: bool,
-    k: usize,
-    mask: u64,
-    cause: Cause,
-)
-    requires { ⌜ k < limits.words ⌝ }
-    ensures { λ _. ⌜ ((ix vl : List ℕ) (touch : Touch) → Stands touch stores k mask → standing (now (gpr .exit)) (now (cr .exit)) (now (kgpr .entry)) (now (kcr .entry)) (now (words .exit)) ix vl ≡ struck (head-of (now (words .entry)) .control .msr .state) (standing (now (gpr .entry)) (now (cr .entry)) (now (kgpr .entry)) (now (kcr .entry)) (now (words .entry)) ix vl) touch cause) ⌝ }
-{
-    if hit(&*words, stores, k, mask) {
-        felled(&mut *gpr, &mut *cr, kgpr, kcr, &mut *words, cause);
-    }
-}
 
 // Thread i of the four, unless it is the accessor.
 fn strike_at(
@@ -127,7 +54,7 @@ fn strike_at(
     rows::four_gprs(*gpr);
     rows::four_crs(*cr);
     rows::four_heads(*words);
-    struck(
+    conflict_one::struck(
         &mut gpr[i],
         &mut cr[i],
         &kgpr[i],
@@ -199,7 +126,7 @@ pub fn others(
             READERS_OF_LOAD,
             l / 64,
             lines::line_mask(l),
-            conflict_cause(s),
+            conflict_one::conflict_cause(s),
         ),
         Touch::Store(l) => strike(
             &mut *gpr,
@@ -211,7 +138,7 @@ pub fn others(
             READERS_OF_STORE,
             l / 64,
             lines::line_mask(l),
-            conflict_cause(s),
+            conflict_one::conflict_cause(s),
         ),
         Touch::Page(p) => strike(
             &mut *gpr,

@@ -1,6 +1,7 @@
 // The comparison on plain numbers, which any bits may be: what crate `host` exports.
 ghost use mathlib.Core.Path.{_≡_};
 ghost use Rattle.verdict.specs.Raw.{right, seventh-of, profile-of, registers-of, taken, show, number, told-as, compare};
+use base::answer;
 use hardware::Compared;
 use hardware::Profile;
 use hardware::Registers;
@@ -9,7 +10,6 @@ use hardware::Verdict;
 use hardware::fields;
 use hardware::render;
 use hardware::table;
-use base::answer;
 
 // A profile: bit 7 of nesting is 0, 1, or 2 where it is free.
 #[repr(C)]

@@ -4,7 +4,8 @@ use mathlib.Core.Path.{sym, subst}
 use Prim.Native.Nat.{ℕ, _/_}
 use native.Mathlib.Omega.{arith}
 use Rattle.transaction.specs.declared.Touch.the-variants.{Load, Store, Page}
-use Rattle.conflict.specs.Inner.{Stands, others-from}
+use Rattle.conflict_one.specs.Inner.{Stands}
+use Rattle.conflict.specs.Inner.{others-from}
 use Rattle.conflict.proofs.Laws.{load-stands, store-stands, page-stands}
 use borrow.Author.Needs.{needs}
 use Rattle.conflict.proofs.others.Statement.{statement}

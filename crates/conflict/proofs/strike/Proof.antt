@@ -2,7 +2,7 @@
 use Prim.Native.Nat.{ℕ, _-_, _≤_}
 use Rattle.conflict.proofs.Laws.{strike-none, strike-step, strike-above}
 use Rattle.step_rules.specs.Conflict as conflict
-use Rattle.conflict.specs.Inner.{Stands}
+use Rattle.conflict_one.specs.Inner.{Stands}
 use Rattle.machine.specs.Machine as machine
 use Rattle.rows.specs.Rows.{rows, threads-of}
 use Rattle.thread.specs.declared.Thread.{Thread}

@@ -1,4 +1,4 @@
--- `conflict::hit` meets its contract.
+-- `conflict_one::hit` meets its contract.
 use Rattle.lines.specs.Lines.{word}
 use Rattle.lines.specs.Inner.{shared}
 use Rattle.rows.proofs.Laws.{writes-masked, reads-masked}
@@ -6,8 +6,8 @@ use Rattle.rows.specs.Rows.{head-of}
 use borrow.Author.Needs.{needs}
 use mathlib.Core.Bool.{false}
 use mathlib.Core.Path.{_≡_, sym, _∙_}
-use Rattle.conflict.proofs.hit.Statement.{statement}
-use Rattle.conflict.proofs.hit.Tie as tie
+use Rattle.conflict_one.proofs.hit.Statement.{statement}
+use Rattle.conflict_one.proofs.hit.Tie as tie
 
 -- the write set is not met
 unwritten : (c : tie.Else1) → let a = c .before .before .args in shared (word (head-of (a .words .now) .writes) (a .k)) (a .mask) ≡ false

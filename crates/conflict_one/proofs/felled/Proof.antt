@@ -1,6 +1,6 @@
--- `conflict::felled` meets its contract.
+-- `conflict_one::felled` meets its contract.
 use Prim.Native.Nat.{ℕ}
-use Rattle.conflict.proofs.Laws.{struck-is}
+use Rattle.conflict_one.proofs.Laws.{struck-is}
 use Rattle.step_rules.specs.Conflict.{hits, struck}
 use Rattle.power_common.proofs.Laws.{recorded-is}
 use Rattle.power_common.specs.Inner as heads
@@ -14,8 +14,8 @@ use borrow.Author.Needs.{needs}
 use mathlib.Core.Bool.{Bool, true, false, cond, _&&_}
 use mathlib.Core.List.{List}
 use mathlib.Core.Path.{_≡_, refl, sym, ap, _∙_}
-use Rattle.conflict.proofs.felled.Statement.{statement}
-use Rattle.conflict.proofs.felled.Tie as tie
+use Rattle.conflict_one.proofs.felled.Statement.{statement}
+use Rattle.conflict_one.proofs.felled.Tie as tie
 
 -- the thread at the start, whatever its log
 abbrev thread : (c : tie.Start) → List ℕ → List ℕ → Thread

@@ -1,10 +1,10 @@
--- `conflict::struck` meets its contract.
-use Rattle.conflict.proofs.Laws.{unstruck}
+-- `conflict_one::struck` meets its contract.
+use Rattle.conflict_one.proofs.Laws.{unstruck}
 use Rattle.rows.specs.Rows.{head-of, held, standing}
 use borrow.Author.Needs.{needs}
 use mathlib.Core.Path.{sym, _∙_}
-use Rattle.conflict.proofs.struck.Statement.{statement}
-use Rattle.conflict.proofs.struck.Tie as tie
+use Rattle.conflict_one.proofs.struck.Statement.{statement}
+use Rattle.conflict_one.proofs.struck.Tie as tie
 
 hit-requires : tie.Need-hit-requires
 hit-requires c κs = search needs
