@@ -2,11 +2,10 @@
 mod zeros;
 
 ghost use mathlib.Core.Path.{_≡_};
-ghost use mathlib.Core.Bool.{cond, _||_};
+ghost use mathlib.Core.Bool.{cond};
 ghost use Prim.Native.Nat.{_<_};
 ghost use Rattle.base.specs.Limits.{most-threads};
-ghost use Rattle.lines.specs.Lines.{meets};
-ghost use Rattle.machine.specs.Valid.{memory-sized, sized, aligned, cr-small, fields-small, live-rules, state-rules, thread-valid, apart, thread-right, threads-right, zero-thread, valid, machine-number};
+ghost use Rattle.machine.specs.Valid.{memory-sized, sized, aligned, cr-small, fields-small, live-rules, state-rules, thread-valid, thread-right, threads-right, zero-thread, valid, machine-number};
 use base::CR_FIELDS;
 use base::FOOTPRINT;
 use base::LEVELS;
@@ -14,7 +13,6 @@ use base::LINE;
 use base::MEMORY;
 use base::THREADS;
 use base::answer;
-use lines::LineSet;
 use machine::Machine;
 use thread::Control;
 use thread::Registers;
@@ -158,60 +156,6 @@ fn thread_valid(t: Thread, len: usize) -> bool
     held::held_right(x, len)
 }
 
-// One thread's written lines meet what another has read or written.
-fn clash(a: LineSet, r: LineSet, w: LineSet) -> bool
-    ensures { λ b. ⌜ b ≡ (meets a r || meets a w) ⌝ }
-{
-    if lines::meets(a, r) {
-        return true;
-    }
-    lines::meets(a, w)
-}
-
-// Two threads, with what each has read and written: one's written lines meet the other's.
-fn clash_either(r: LineSet, w: LineSet, s: LineSet, x: LineSet) -> bool
-    ensures { λ b. ⌜ b ≡ ((meets w s || meets w x) || (meets x r || meets x w)) ⌝ }
-{
-    if clash(w, s, x) {
-        return true;
-    }
-    clash(x, r, w)
-}
-
-// No two threads clash. The sets are taken out once, by known indices: one that is not known would copy all records to take one.
-fn apart(m: Machine) -> bool
-    ensures { λ r. ⌜ r ≡ apart m ⌝ }
-{
-    let a = m.threads[0];
-    let ar = a.transaction.reads;
-    let aw = a.transaction.writes;
-    let b = m.threads[1];
-    let br = b.transaction.reads;
-    let bw = b.transaction.writes;
-    let c = m.threads[2];
-    let cr = c.transaction.reads;
-    let cw = c.transaction.writes;
-    let d = m.threads[3];
-    let dr = d.transaction.reads;
-    let dw = d.transaction.writes;
-    if clash_either(ar, aw, br, bw) {
-        return false;
-    }
-    if clash_either(ar, aw, cr, cw) {
-        return false;
-    }
-    if clash_either(ar, aw, dr, dw) {
-        return false;
-    }
-    if clash_either(br, bw, cr, cw) {
-        return false;
-    }
-    if clash_either(br, bw, dr, dw) {
-        return false;
-    }
-    !clash_either(cr, cw, dr, dw)
-}
-
 // A thread record is valid, or past the count and zero.
 fn record_right(t: Thread, len: usize, below: bool) -> bool
     ensures { λ r. ⌜ r ≡ cond below (thread-valid t len) (zero-thread t) ⌝ }
@@ -270,7 +214,7 @@ fn valid(m: Machine, len: usize) -> bool
     if !threads_right(m, len) {
         return false;
     }
-    apart(m)
+    apart::apart(m)
 }
 
 // The tests 1 and 2, in this order; 0 for a machine that passes both.

@@ -1,8 +1,8 @@
--- `validity::clash` meets its contract: its tests are those of the expression.
+-- `apart::clash` meets its contract: its tests are those of the expression.
 use borrow.Author.Needs.{needs}
 use mathlib.Core.Path.{sym, _∙_}
-use Rattle.validity.proofs.clash.Statement.{statement}
-use Rattle.validity.proofs.clash.Tie as tie
+use Rattle.apart.proofs.clash.Statement.{statement}
+use Rattle.apart.proofs.clash.Tie as tie
 
 meets-requires : tie.Need-meets-requires
 meets-requires c κs = search needs

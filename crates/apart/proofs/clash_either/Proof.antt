@@ -1,8 +1,8 @@
--- `validity::clash_either` meets its contract: its tests are those of the expression.
+-- `apart::clash_either` meets its contract: its tests are those of the expression.
 use borrow.Author.Needs.{needs}
 use mathlib.Core.Path.{sym, _∙_}
-use Rattle.validity.proofs.clash_either.Statement.{statement}
-use Rattle.validity.proofs.clash_either.Tie as tie
+use Rattle.apart.proofs.clash_either.Statement.{statement}
+use Rattle.apart.proofs.clash_either.Tie as tie
 
 clash-requires : tie.Need-clash-requires
 clash-requires c κs = search needs

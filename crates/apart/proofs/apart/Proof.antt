@@ -1,4 +1,4 @@
--- `validity::apart` meets its contract: a pair of threads that clash is one that the definition meets, and six pairs are all.
+-- `apart::apart` meets its contract: a pair of threads that clash is one that the definition meets, and six pairs are all.
 use borrow.Author.Needs.{needs}
 use mathlib.Core.Path.{_≡_, refl, sym, ap, _∙_}
 use mathlib.Core.Bool.{Bool, true, false, not, _||_}
@@ -11,8 +11,8 @@ use Rattle.base.proofs.Below.{all-at, neither}
 use Rattle.machine.specs.Machine.{thread}
 use Rattle.machine.specs.Valid.{apart, clear-of, clash}
 use Rattle.machine.specs.declared.Machine.{Machine}
-use Rattle.validity.proofs.apart.Statement.{statement}
-use Rattle.validity.proofs.apart.Tie as tie
+use Rattle.apart.proofs.apart.Statement.{statement}
+use Rattle.apart.proofs.apart.Tie as tie
 
 module _ (m : Machine) where
   -- threads v and w, the first's written lines against the second's
