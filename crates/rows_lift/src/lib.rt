@@ -1,6 +1,4 @@
 // A thread lifted out of its rows by value, and laid into them.
-pub mod machines;
-
 ghost use mathlib.Core.Path.{_≡_};
 ghost use mathlib.Core.Bool.{true};
 ghost use mathlib.Core.List.{List};

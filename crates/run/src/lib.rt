@@ -36,7 +36,7 @@ fn run_valid(m: Machine, mem: &mut [u64], tape: &[u8], answers: &mut [u8]) -> En
     let mut words = [[0u64; HEAD]; THREADS];
     let mut ix = [[0u32; PLACES]; THREADS];
     let mut vl = [[0u64; VALUES]; THREADS];
-    rows_lift::machines::laid(
+    rows_machines::laid(
         &mut gpr,
         &mut cr,
         &mut kgpr,
@@ -59,7 +59,7 @@ fn run_valid(m: Machine, mem: &mut [u64], tape: &[u8], answers: &mut [u8]) -> En
         tape,
         answers,
     );
-    let n = rows_lift::machines::lifted(&gpr, &cr, &kgpr, &kcr, &words, &ix, &vl, m.count);
+    let n = rows_machines::lifted(&gpr, &cr, &kgpr, &kcr, &words, &ix, &vl, m.count);
     Ended {
         answer: s.answer,
         count: s.count,

@@ -29,7 +29,7 @@ fn step_valid(m: Machine, mem: &mut [u64], thread: u8, e: Event) -> Done
     let mut words = [[0u64; HEAD]; THREADS];
     let mut ix = [[0u32; PLACES]; THREADS];
     let mut vl = [[0u64; VALUES]; THREADS];
-    rows_lift::machines::laid(
+    rows_machines::laid(
         &mut gpr,
         &mut cr,
         &mut kgpr,
@@ -52,7 +52,7 @@ fn step_valid(m: Machine, mem: &mut [u64], thread: u8, e: Event) -> Done
         thread,
         e,
     );
-    let machine = rows_lift::machines::lifted(&gpr, &cr, &kgpr, &kcr, &words, &ix, &vl, m.count);
+    let machine = rows_machines::lifted(&gpr, &cr, &kgpr, &kcr, &words, &ix, &vl, m.count);
     Done { answer, machine }
 }
 

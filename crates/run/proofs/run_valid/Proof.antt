@@ -6,7 +6,7 @@ use lib.ListN.{length}
 use Rattle.machine.specs.Valid.{valid}
 use Rattle.machine.specs.declared.Machine.{Machine}
 use Rattle.rows.specs.Rows.{Rows, rows, machine-of}
-use Rattle.rows_lift.proofs.Threads.{clean}
+use Rattle.rows_machines.proofs.Threads.{clean}
 use Rattle.run_rules.specs.Inner.{filled}
 use Rattle.run_rules.specs.Run.{Result, result, reads, play}
 use borrow.Author.Needs.{needs}

@@ -6,7 +6,7 @@ use mathlib.Core.Path.{_≡_, ap, _∙_}
 use Rattle.machine.specs.Valid.{valid}
 use Rattle.machine.specs.declared.Machine.{Machine}
 use Rattle.rows.specs.Rows.{Rows, rows, machine-of}
-use Rattle.rows_lift.proofs.Threads.{clean}
+use Rattle.rows_machines.proofs.Threads.{clean}
 use Rattle.step_rules.specs.Step.{Outcome, outcome, step}
 use borrow.Author.Needs.{needs}
 use Rattle.step.proofs.step_valid.Statement.{statement}

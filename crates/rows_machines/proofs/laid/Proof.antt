@@ -1,4 +1,4 @@
--- `rows_lift::machines::laid` meets its contract.
+-- `rows_machines::laid` meets its contract.
 use Prim.Native.Nat.{_<_}
 use lib.ListN.{length, set}
 use mathlib.Core.List.{List}
@@ -7,11 +7,11 @@ use native.Mathlib.Omega.{arith}
 use Rattle.base.proofs.Below.{length-parts}
 use Rattle.machine.specs.Machine.{thread}
 use Rattle.rows.specs.Rows.{threads-of}
-use Rattle.rows_lift.proofs.Threads.{four-threads}
+use Rattle.rows_machines.proofs.Threads.{four-threads}
 use Rattle.thread.specs.declared.Thread.{Thread}
 use borrow.Author.Needs.{needs}
-use Rattle.rows_lift.proofs.machines.laid.Statement.{statement}
-use Rattle.rows_lift.proofs.machines.laid.Tie as tie
+use Rattle.rows_machines.proofs.laid.Statement.{statement}
+use Rattle.rows_machines.proofs.laid.Tie as tie
 
 -- the places before the first two threads and before all
 abbrev first : (c : tie.After-two-laid-at) → tie.After-d

@@ -1,9 +1,9 @@
--- `rows_lift::machines::lifted` meets its contract.
+-- `rows_machines::lifted` meets its contract.
 use mathlib.Core.List.{[], _∷_}
 use Rattle.rows.specs.Rows.{threads-of}
 use borrow.Author.Needs.{needs}
-use Rattle.rows_lift.proofs.machines.lifted.Statement.{statement}
-use Rattle.rows_lift.proofs.machines.lifted.Tie as tie
+use Rattle.rows_machines.proofs.lifted.Statement.{statement}
+use Rattle.rows_machines.proofs.lifted.Tie as tie
 
 lifted-at-requires : tie.Need-lifted-at-requires
 lifted-at-requires c κs = search needs

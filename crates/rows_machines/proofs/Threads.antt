@@ -14,7 +14,7 @@ use Rattle.machine.specs.Valid.{held-right, thread-valid, zero-thread, thread-r
 use Rattle.machine.specs.declared.Machine.{Machine}
 use Rattle.machine.proofs.Validity.{valid-threads}
 use Rattle.rows.proofs.Laws.{one-of-four}
-use Rattle.rows_lift.specs.Inner.{Clean}
+use Rattle.rows_machines.specs.Inner.{Clean}
 
 -- a valid machine's threads have nothing past their logs' counts
 pub clean : (m : Machine) (len : ℕ) → valid m len ≡ true → Clean (m .threads)

@@ -1,11 +1,11 @@
--- `rows_lift::machines::laid_at` meets its contract.
+-- `rows_machines::laid_at` meets its contract.
 use borrow.Author.Needs.{needs}
 use lib.ListN.{set}
 use mathlib.Core.Path.{ap, _∙_}
 use Rattle.rows.proofs.Laws.{changed, threads-anew}
 use Rattle.rows.specs.Rows.{Row, rows, threads-of}
-use Rattle.rows_lift.proofs.machines.laid_at.Statement.{statement}
-use Rattle.rows_lift.proofs.machines.laid_at.Tie as tie
+use Rattle.rows_machines.proofs.laid_at.Statement.{statement}
+use Rattle.rows_machines.proofs.laid_at.Tie as tie
 
 four-gprs-requires : tie.Need-four-gprs-requires
 four-gprs-requires c κs = search needs

@@ -1,12 +1,12 @@
--- `rows_lift::machines::two_laid_at` meets its contract.
+-- `rows_machines::two_laid_at` meets its contract.
 use Prim.Native.Nat.{_+_}
 use lib.ListN.{set}
 use mathlib.Core.List.{List}
 use mathlib.Core.Path.{ap, _∙_}
 use Rattle.thread.specs.declared.Thread.{Thread}
 use borrow.Author.Needs.{needs}
-use Rattle.rows_lift.proofs.machines.two_laid_at.Statement.{statement}
-use Rattle.rows_lift.proofs.machines.two_laid_at.Tie as tie
+use Rattle.rows_machines.proofs.two_laid_at.Statement.{statement}
+use Rattle.rows_machines.proofs.two_laid_at.Tie as tie
 
 laid-at-requires : tie.Need-laid-at-requires
 laid-at-requires c κs = search needs

@@ -6,7 +6,7 @@ ghost use lib.ListN.{set};
 ghost use Rattle.base.specs.Limits.{most-threads};
 ghost use Rattle.machine.specs.Valid.{unused-zero};
 ghost use Rattle.rows.specs.Rows.{rows, row, thread-of, threads-of, machine-of};
-ghost use Rattle.rows_lift.specs.Inner.{Clean};
+ghost use Rattle.rows_machines.specs.Inner.{Clean};
 use base::CR_FIELDS;
 use base::GPRS;
 use base::PLACES;
@@ -39,7 +39,7 @@ fn laid_at(
     rows::four_heads(*words);
     rows::four_indices(*ix);
     rows::four_values(*vl);
-    crate::laid(
+    rows_lift::laid(
         &mut gpr[w],
         &mut cr[w],
         &mut kgpr[w],
@@ -151,7 +151,7 @@ fn lifted_at(
     requires { ⌜ w < most-threads ⌝ }
     ensures { λ t. ⌜ t ≡ thread-of (row (rows (now (gpr .entry)) (now (cr .entry)) (now (kgpr .entry)) (now (kcr .entry)) (now (words .entry)) (now (ix .entry)) (now (vl .entry))) w) ⌝ }
 {
-    crate::lifted(
+    rows_lift::lifted(
         &gpr[w],
         &cr[w],
         &kgpr[w],
