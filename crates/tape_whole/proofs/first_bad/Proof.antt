@@ -12,7 +12,7 @@ use Rattle.kinds.specs.Rows.{rows}
 use Rattle.base.proofs.Below.{flag-true, flag-false}
 use Rattle.tape.specs.Tape.{record-at, number}
 use Rattle.tape.specs.FirstBad.{found, read-number, first-bad}
-use Rattle.tape_whole.specs.Inner.{limits, table}
+use Rattle.tape_limits.specs.Inner.{limits, table}
 use Rattle.tape.proofs.Laws.{part-is}
 use Rattle.tape.proofs.FirstBad.{bad-none, bad-here, bad-later}
 use Rattle.tape_whole.proofs.first_bad.Statement.{statement}

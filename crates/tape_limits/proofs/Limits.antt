@@ -13,7 +13,7 @@ use Rattle.kinds.specs.Rows.{rows, kind-right, no-row, row, used, spans}
 use Rattle.kinds.specs.declared.Row.{Row}
 use Rattle.tape.specs.Tape.{record-size, first-byte, byte, two, four, fields-at, fixed-zero, unused-clear, judged, of-kind, read, number}
 use Rattle.tape.specs.FirstBad.{read-number}
-use Rattle.tape_whole.specs.Inner.{most, limits, table, ones, masks, within}
+use Rattle.tape_limits.specs.Inner.{most, limits, table, ones, masks, within}
 use Rattle.tape.specs.declared.Read.{Read}
 use Rattle.tape.specs.declared.Read.the-variants.{Record, Refused}
 use Rattle.tape.proofs.Laws.{of-a-kind}

@@ -1,13 +1,13 @@
--- `tape_whole::within` meets its contract.
+-- `tape_limits::within` meets its contract.
 use mathlib.Core.Path.{_∙_}
 use mathlib.Core.Bool.{_&&_}
 use native.Mathlib.Omega.{arith}
 use lib.Dec.{leb}
 use lib.ListN.{getD}
-use Rattle.tape_whole.proofs.Words.{within-is}
+use Rattle.tape_limits.proofs.Words.{within-is}
 use borrow.Author.Needs.{needs}
-use Rattle.tape_whole.proofs.within.Statement.{statement}
-use Rattle.tape_whole.proofs.within.Tie as tie
+use Rattle.tape_limits.proofs.within.Statement.{statement}
+use Rattle.tape_limits.proofs.within.Tie as tie
 
 covered-requires : tie.Need-covered-requires
 covered-requires c κs = search needs

@@ -1,10 +1,10 @@
--- `tape_whole::covered` meets its contract.
+-- `tape_limits::covered` meets its contract.
 use lib.Bits.{bitOr}
 use lib.Dec.{eqb}
-use Rattle.tape_whole.specs.Inner.{covered}
+use Rattle.tape_limits.specs.Inner.{covered}
 use borrow.Author.Needs.{needs}
-use Rattle.tape_whole.proofs.covered.Statement.{statement}
-use Rattle.tape_whole.proofs.covered.Tie as tie
+use Rattle.tape_limits.proofs.covered.Statement.{statement}
+use Rattle.tape_limits.proofs.covered.Tie as tie
 
 word-requires : tie.Need-word-requires
 word-requires c κs = search needs

@@ -1,4 +1,4 @@
--- `tape_whole::good` meets its contract.
+-- `tape_limits::good` meets its contract.
 use mathlib.Core.Path.{_≡_, ap, _∙_}
 use mathlib.Core.Bool.{Bool, _&&_}
 use Prim.Native.Nat.{ℕ, _<_}
@@ -8,10 +8,10 @@ use lib.Dec.{eqb}
 use Rattle.kinds.specs.Rows.{rows}
 use Rattle.tape.specs.Tape.{byte, first-byte}
 use Rattle.tape.proofs.Laws.{kind-in, kind-low, kind-high}
-use Rattle.tape_whole.proofs.Limits.{good-in, good-out}
+use Rattle.tape_limits.proofs.Limits.{good-in, good-out}
 use borrow.Author.Needs.{needs}
-use Rattle.tape_whole.proofs.good.Statement.{statement}
-use Rattle.tape_whole.proofs.good.Tie as tie
+use Rattle.tape_limits.proofs.good.Statement.{statement}
+use Rattle.tape_limits.proofs.good.Tie as tie
 
 -- what is known at the kind: every byte is below 256, and the record is of the right length
 small : (c : tie.After-shared-slice-known3) (i : ℕ) → byte (c .before .before .before .args .s .now) i < 256

@@ -1,8 +1,8 @@
--- `tape_whole::word` meets its contract.
-use Rattle.tape_whole.specs.Inner.{word}
+-- `tape_limits::word` meets its contract.
+use Rattle.tape_limits.specs.Inner.{word}
 use borrow.Author.Needs.{needs}
-use Rattle.tape_whole.proofs.word.Statement.{statement}
-use Rattle.tape_whole.proofs.word.Tie as tie
+use Rattle.tape_limits.proofs.word.Statement.{statement}
+use Rattle.tape_limits.proofs.word.Tie as tie
 
 add-four : tie.Need-add-four
 add-four c = search needs

@@ -1,4 +1,4 @@
--- `tape_whole::fits` meets its contract: the table has the limits of each row.
+-- `tape_limits::fits` meets its contract: the table has the limits of each row.
 use mathlib.Core.Bool.{true}
 use mathlib.Core.Path.{_≡_, sym, ap, _∙_}
 use mathlib.Core.List.{List, []}
@@ -6,11 +6,11 @@ use Prim.Native.Nat.{ℕ, _-_}
 use lib.ListN.{getD, length}
 use native.Mathlib.Omega.{arith}
 use Rattle.kinds.specs.Rows.{rows}
-use Rattle.tape_whole.specs.Inner.{masks, within}
-use Rattle.tape_whole.proofs.Limits.{table-at, masks-at}
+use Rattle.tape_limits.specs.Inner.{masks, within}
+use Rattle.tape_limits.proofs.Limits.{table-at, masks-at}
 use borrow.Author.Needs.{needs}
-use Rattle.tape_whole.proofs.fits.Statement.{statement}
-use Rattle.tape_whole.proofs.fits.Tie as tie
+use Rattle.tape_limits.proofs.fits.Statement.{statement}
+use Rattle.tape_limits.proofs.fits.Tie as tie
 
 -- the kind's limits are sixteen, and ones from some bit down
 sized : (c : tie.After-own2) → let s = c .before .before .before in let own = getD (s .args .limits .now) (s .args .kind - 1) [] in (length own ≡ 16) × (masks own ≡ true)

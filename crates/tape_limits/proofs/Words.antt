@@ -11,8 +11,8 @@ use borrow.Author.Tests.{eq-eqb, eqb-true, le-leb, ltb-true}
 use Rattle.base.specs.Below.{all-below}
 use Rattle.base.proofs.Below.{all-at, and-left, and-right}
 use Rattle.tape.specs.Tape.{record-size, byte, four}
-use Rattle.tape_whole.specs.Inner.{word, covered, ones, masks, within}
-use Rattle.tape_whole.proofs.Limits.{both, agree}
+use Rattle.tape_limits.specs.Inner.{word, covered, ones, masks, within}
+use Rattle.tape_limits.proofs.Limits.{both, agree}
 
 -- ---- a byte and its limit, by computation
 
