@@ -11,7 +11,6 @@ use base::answer;
 use tape::Found;
 use tape::RECORD_SIZE;
 use tape::Read;
-use tape::writer;
 
 // The number of a record that cannot be had in the other edition, or 0.
 fn number(d: Edition, s: &[u8]) -> u8
@@ -58,7 +57,7 @@ fn turn(d: Edition, s: &[u8], buf: &mut [u8], at: usize)
         return;
     };
     let record = crate::bytes(crate::other(d), event::fields_of(thread, event));
-    writer::put(buf, at, &record);
+    tape_writer::put(buf, at, &record);
 }
 
 // All records of a tape that has no bad one.

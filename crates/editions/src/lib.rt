@@ -42,7 +42,7 @@ pub fn bytes(d: Edition, f: Fields) -> [u8; RECORD_SIZE]
 {
     match d {
         Edition::Two => two::bytes(f),
-        Edition::Three => tape::writer::bytes(f),
+        Edition::Three => tape_writer::bytes(f),
     }
 }
 
@@ -77,6 +77,6 @@ pub fn write(d: Edition, thread: u8, e: Event, buf: &mut [u8]) -> u8
         return answer::SHORT_BUFFER;
     }
     let record = bytes(d, event::fields_of(thread, e));
-    tape::writer::put(buf, 0, &record);
+    tape_writer::put(buf, 0, &record);
     answer::DONE
 }

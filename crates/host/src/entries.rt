@@ -55,7 +55,7 @@ fn lone(m: Machine, mem: &mut [u64], e: Fields) -> Done
     ensures { λ r. ⌜ r ≡ lone m (now (mem .entry)) e .done ⌝ }
     ensures { λ r. ⌜ now (mem .exit) ≡ lone m (now (mem .entry)) e .memory ⌝ }
 {
-    let record = tape::writer::bytes(e);
+    let record = tape_writer::bytes(e);
     let mut answers = [0; 1];
     let ended = run::run(m, mem, &record, &mut answers);
     let machine = ended.machine;
@@ -136,7 +136,7 @@ pub extern "C" fn naszeptan_write(e: Fields, buf: &mut [u8]) -> u8
 {
     let found = tape::reader::of_kind(e, true);
     match found {
-        Read::Record { thread, event } => tape::writer::write(thread, event, buf),
+        Read::Record { thread, event } => tape_writer::write(thread, event, buf),
         Read::Refused(n) => n,
     }
 }

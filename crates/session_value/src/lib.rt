@@ -80,7 +80,7 @@ pub fn laid(left: &[u8]) -> [u8; HELD]
     ensures { λ r. ⌜ r ≡ laid (now (left .entry)) ⌝ }
 {
     let mut bytes = [0; HELD];
-    tape::writer::put(&mut bytes, 0, left);
+    tape_writer::put(&mut bytes, 0, left);
     bytes
 }
 
@@ -92,8 +92,8 @@ pub fn joined(bytes: [u8; HELD], held: usize, more: &[u8]) -> [u8; RECORD_SIZE]
     ensures { λ r. ⌜ length (take held bytes) ≡ held ⌝ }
 {
     let mut record = [0; RECORD_SIZE];
-    tape::writer::put(&mut record, 0, &bytes[..held]);
-    tape::writer::put(&mut record, held, more);
+    tape_writer::put(&mut record, 0, &bytes[..held]);
+    tape_writer::put(&mut record, held, more);
     record
 }
 

@@ -1,6 +1,5 @@
 // The tape: records of 16 bytes, one event each (rules T1 to T7).
 pub mod reader;
-pub mod writer;
 
 ghost use mathlib.Core.Path.{_≡_};
 ghost use Rattle.tape.specs.Tape.{number};

@@ -1,9 +1,9 @@
--- `tape::writer::write` meets its contract.
+-- `tape_writer::write` meets its contract.
 use borrow.Author.Tests.{le-ltb, lt-ltb}
 use Rattle.tape.specs.Tape.{write-answer, write}
 use borrow.Author.Needs.{needs}
-use Rattle.tape.proofs.writer.write.Statement.{statement}
-use Rattle.tape.proofs.writer.write.Tie as tie
+use Rattle.tape_writer.proofs.write.Statement.{statement}
+use Rattle.tape_writer.proofs.write.Tie as tie
 
 returns : tie.Need-returns
 unfolding write-answer write

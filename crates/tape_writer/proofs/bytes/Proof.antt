@@ -1,9 +1,9 @@
--- `tape::writer::bytes` meets its contract.
+-- `tape_writer::bytes` meets its contract.
 use mathlib.Core.Path.{refl}
 use Rattle.tape.specs.Tape.{bytes}
 use borrow.Author.Needs.{needs}
-use Rattle.tape.proofs.writer.bytes.Statement.{statement}
-use Rattle.tape.proofs.writer.bytes.Tie as tie
+use Rattle.tape_writer.proofs.bytes.Statement.{statement}
+use Rattle.tape_writer.proofs.bytes.Tie as tie
 
 cast-t8 : tie.Need-cast-t8
 cast-t8 c = search needs

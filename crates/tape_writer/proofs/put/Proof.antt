@@ -1,4 +1,4 @@
--- `tape::writer::put` meets its contract: the first i bytes are those of the record.
+-- `tape_writer::put` meets its contract: the first i bytes are those of the record.
 use mathlib.Core.Path.{_≡_, refl, sym, ap, _∙_}
 use mathlib.Core.List.{List, _++_}
 use Prim.Native.Nat.{ℕ, suc, _+_, _-_, _≤_}
@@ -6,8 +6,8 @@ use native.Mathlib.Omega.{arith}
 use borrow.Author.Needs.{needs}
 use lib.ListN.{length, take, drop, getD, set, length-set}
 use lib.Seq.{paste, paste-zero, paste-suc, sets-eq, take-length}
-use Rattle.tape.proofs.writer.put.Statement.{statement}
-use Rattle.tape.proofs.writer.put.Tie as tie
+use Rattle.tape_writer.proofs.put.Statement.{statement}
+use Rattle.tape_writer.proofs.put.Tie as tie
 
 abbrev Inv-loop : tie.InvT-loop
 Inv-loop buf₀ at src i₀ buf i = (i ≤ length src) × (length buf ≡ length buf₀) × (buf ≡ paste buf₀ at src i)

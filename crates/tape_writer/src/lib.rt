@@ -1,14 +1,14 @@
-// The writer of one record.
+// The writer of one record of a tape (rule T7).
 ghost use mathlib.Core.Path.{_≡_};
 ghost use Prim.Native.Nat.{_+_, _≤_};
 ghost use lib.ListN.{length};
 ghost use lib.Seq.{sets};
 ghost use Rattle.tape.specs.Tape.{record-size, bytes, write-answer, write};
-use crate::FIRST_BYTE;
-use crate::RECORD_SIZE;
 use base::answer;
 use event::Event;
 use event::Fields;
+use tape::FIRST_BYTE;
+use tape::RECORD_SIZE;
 
 // The record's bytes.
 pub fn bytes(f: Fields) -> [u8; RECORD_SIZE]
