@@ -2,12 +2,11 @@
 use mathlib.Core.Path.{_≡_, refl, sym, ap, _∙_}
 use mathlib.Core.Bool.{Bool, true, false, not, cond, _&&_}
 use mathlib.Core.List.{List, [], _∷_, _++_}
-use Prim.Native.Nat.{ℕ, zero, suc, _+_, _-_, _*_, _≤_, _<_}
+use Prim.Native.Nat.{ℕ, zero, suc, _+_, _-_, _*_, _<_}
 use native.Mathlib.Omega.{arith}
 use lib.Dec.{eqb, leb}
 use lib.ListN.{length, set, length-append}
 use lib.Seq.{sets}
-use borrow.Author.Tests.{eq-eqb, ne-eqb, eqb-true, eqb-false, le-leb}
 use Rattle.event.specs.Event.{fields-of}
 use Rattle.event.specs.declared.Event.{Event}
 use Rattle.event.specs.declared.Fields.{Fields}
@@ -16,17 +15,11 @@ use Rattle.tape.specs.Tape as three
 use Rattle.tape.specs.Tape.{record-size, first-byte, byte, unused-clear, judged, of-kind, record-at}
 use Rattle.tape.specs.declared.Read.{Read}
 use Rattle.tape.specs.declared.Read.the-variants.{Record, Refused}
-use Rattle.editions.specs.Two as two
-use Rattle.editions.specs.Two.{last-thread, last-kind}
+use Rattle.edition_two.specs.Two as two
+use Rattle.edition_two.specs.Two.{last-thread, last-kind}
 use Rattle.editions.specs.Editions.{other, read, bytes, turned-number, number, turned-bytes, turned, all-turned}
 use Rattle.editions.specs.declared.Edition.{Edition}
 use Rattle.editions.specs.declared.Edition.the-variants.{Two, Three}
-
--- a record of edition two of the right length, thread and kind is read by its kind
-pub begun-right : (bs : List ℕ) → length bs ≡ record-size → byte bs 0 ≤ last-thread → byte bs 1 ≤ last-kind
-    → two.read bs ≡ of-kind (two.fields-at bs) (two.fixed-zero bs)
-unfolding two.read
-begun-right bs l t k = rw (eq-eqb (length bs) record-size l, le-leb (byte bs 0) last-thread t, le-leb (byte bs 1) last-kind k)
 
 -- ---- no refusal is 0
 

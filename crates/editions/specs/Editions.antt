@@ -15,7 +15,7 @@ use Rattle.tape.specs.FirstBad.{found, first-bad}
 use Rattle.tape.specs.declared.Found.{Found}
 use Rattle.tape.specs.declared.Read.{Read}
 use Rattle.tape.specs.declared.Read.the-variants.{Record, Refused}
-use Rattle.editions.specs.Two as two
+use Rattle.edition_two.specs.Two as two
 use Rattle.editions.specs.declared.Edition.{Edition}
 use Rattle.editions.specs.declared.Edition.the-variants.{Two, Three}
 

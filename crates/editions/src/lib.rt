@@ -1,6 +1,5 @@
 // Tapes of edition two and edition three (rules T8 to T13): the reader, the writer and the converter of an edition that the caller names.
 pub mod converter;
-pub mod two;
 
 ghost use mathlib.Core.Path.{_≡_};
 ghost use Prim.Native.Nat.{_≤_};
@@ -32,7 +31,7 @@ pub fn read(d: Edition, s: &[u8]) -> Read
     ensures { λ r. ⌜ r ≡ read d (now (s .entry)) ⌝ }
 {
     match d {
-        Edition::Two => two::read(s),
+        Edition::Two => edition_two::read(s),
         Edition::Three => tape::reader::read(s),
     }
 }
@@ -41,7 +40,7 @@ pub fn bytes(d: Edition, f: Fields) -> [u8; RECORD_SIZE]
     ensures { λ r. ⌜ r ≡ bytes d f ⌝ }
 {
     match d {
-        Edition::Two => two::bytes(f),
+        Edition::Two => edition_two::bytes(f),
         Edition::Three => tape_writer::bytes(f),
     }
 }
@@ -52,10 +51,10 @@ pub fn no_record(d: Edition, thread: u8, e: Event) -> u8
 {
     match d {
         Edition::Two => {
-            if two::LAST_THREAD < thread {
+            if edition_two::LAST_THREAD < thread {
                 return answer::NO_THREAD;
             }
-            if two::LAST_KIND < event::kind(e) {
+            if edition_two::LAST_KIND < event::kind(e) {
                 return answer::NO_KIND;
             }
             answer::DONE

@@ -15,12 +15,12 @@ use Rattle.event.specs.declared.Fields.{Fields}
 use Rattle.tape.specs.Tape as three
 use Rattle.tape.specs.Tape.{record-size, byte, of-kind}
 use Rattle.tape.specs.declared.Read.the-variants.{Record}
-use Rattle.editions.specs.Two as two
-use Rattle.editions.specs.Two.{last-thread, last-kind}
+use Rattle.edition_two.specs.Two as two
+use Rattle.edition_two.specs.Two.{last-thread, last-kind}
 use Rattle.editions.specs.Editions.{read, bytes, no-record}
 use Rattle.editions.specs.declared.Edition.{Edition}
 use Rattle.editions.specs.declared.Edition.the-variants.{Two, Three}
-use Rattle.editions.proofs.Laws.{begun-right}
+use Rattle.edition_two.proofs.Laws.{begun-right}
 use Rattle.laws_round.specs.Round.{FieldsFit, Bytes, Layout, Means}
 use Rattle.laws_round.proofs.Round.{passed, taken, written, bytes-mean, meant-fields, meant-bytes, four-back, two-back, four-bytes, two-bytes, four-fits, two-fits, listed-back, tape, read-means, means-read}
 

@@ -19,8 +19,8 @@ use Rattle.tape.specs.declared.Read.{Read}
 use Rattle.tape.specs.declared.Read.the-variants.{Record, Refused}
 use Rattle.tape.proofs.Laws.{over-all}
 use Rattle.tape.proofs.FirstBad.{bad-here, each-good, none-bad}
-use Rattle.editions.specs.Two as two
-use Rattle.editions.specs.Two.{last-thread}
+use Rattle.edition_two.specs.Two as two
+use Rattle.edition_two.specs.Two.{last-thread}
 use Rattle.editions.specs.Editions as editions
 use Rattle.editions.specs.Editions.{other, read, bytes, no-record, write-answer, write, turned-number, turned-bytes, turned, all-turned, convert-answer, convert}
 use Rattle.editions.specs.declared.Edition.{Edition}

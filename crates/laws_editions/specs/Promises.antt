@@ -12,7 +12,7 @@ use Rattle.tape.specs.Tape.{record-size, first-byte, byte, record-at, number}
 use Rattle.tape.specs.FirstBad.{found}
 use Rattle.tape.specs.declared.Read.{Read}
 use Rattle.tape.specs.declared.Read.the-variants.{Record}
-use Rattle.editions.specs.Two.{last-thread}
+use Rattle.edition_two.specs.Two.{last-thread}
 use Rattle.editions.specs.Editions.{other, read, write-answer, write, convert-answer, convert}
 use Rattle.editions.specs.declared.Edition.{Edition}
 use Rattle.editions.specs.declared.Edition.the-variants.{Two, Three}

@@ -1,9 +1,9 @@
--- `editions::two::bytes` meets its contract.
+-- `edition_two::bytes` meets its contract.
 use mathlib.Core.Path.{refl}
-use Rattle.editions.specs.Two.{bytes}
+use Rattle.edition_two.specs.Two.{bytes}
 use borrow.Author.Needs.{needs}
-use Rattle.editions.proofs.two.bytes.Statement.{statement}
-use Rattle.editions.proofs.two.bytes.Tie as tie
+use Rattle.edition_two.proofs.bytes.Statement.{statement}
+use Rattle.edition_two.proofs.bytes.Tie as tie
 
 cast-t5 : tie.Need-cast-t5
 cast-t5 c = search needs

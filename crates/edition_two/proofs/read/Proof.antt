@@ -1,12 +1,12 @@
--- `editions::two::read` meets its contract.
+-- `edition_two::read` meets its contract.
 use mathlib.Core.Path.{_≡_, sym, _∙_}
 use borrow.Author.Tests.{eq-eqb, ne-eqb, le-leb, lt-leb}
 use Rattle.tape.specs.Tape.{of-kind}
-use Rattle.editions.specs.Two.{read}
-use Rattle.editions.proofs.Laws.{begun-right}
+use Rattle.edition_two.specs.Two.{read}
+use Rattle.edition_two.proofs.Laws.{begun-right}
 use borrow.Author.Needs.{needs}
-use Rattle.editions.proofs.two.read.Statement.{statement}
-use Rattle.editions.proofs.two.read.Tie as tie
+use Rattle.edition_two.proofs.read.Statement.{statement}
+use Rattle.edition_two.proofs.read.Tie as tie
 
 returns : tie.Need-returns
 unfolding read

@@ -1,8 +1,8 @@
--- `editions::two::fields_at` meets its contract.
-use Rattle.editions.specs.Two.{fields-at}
+-- `edition_two::fields_at` meets its contract.
+use Rattle.edition_two.specs.Two.{fields-at}
 use borrow.Author.Needs.{needs}
-use Rattle.editions.proofs.two.fields_at.Statement.{statement}
-use Rattle.editions.proofs.two.fields_at.Tie as tie
+use Rattle.edition_two.proofs.fields_at.Statement.{statement}
+use Rattle.edition_two.proofs.fields_at.Tie as tie
 
 shared-slice-read-t3 : tie.Need-shared-slice-read-t3
 shared-slice-read-t3 c = search needs

@@ -1,8 +1,8 @@
-// One record of edition two.
+// One record of edition two, read and written (rules T9 and T10).
 ghost use mathlib.Core.Path.{_≡_};
 ghost use lib.ListN.{length};
 ghost use Rattle.tape.specs.Tape.{record-size};
-ghost use Rattle.editions.specs.Two.{fields-at, fixed-zero, bytes, read};
+ghost use Rattle.edition_two.specs.Two.{fields-at, fixed-zero, bytes, read};
 use base::answer;
 use event::Fields;
 use tape::RECORD_SIZE;

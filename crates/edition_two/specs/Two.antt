@@ -10,7 +10,7 @@ use Rattle.tape.specs.Tape.{record-size, byte, two, four, of-kind}
 use Rattle.tape.specs.declared.Read.{Read}
 use Rattle.tape.specs.declared.Read.the-variants.{Refused}
 
--- the last thread and the last kind that this edition has, whatever kinds are added later; src/two.rt has the same numbers for the code
+-- the last thread and the last kind that this edition has, whatever kinds are added later; src/lib.rt has the same numbers for the code
 abbrev pub last-thread : ℕ
 last-thread = 3
 
