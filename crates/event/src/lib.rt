@@ -286,7 +286,7 @@ pub fn operands_right(e: Event, len: usize) -> bool
     ensures { λ r. ⌜ r ≡ operands-right e len ⌝ }
 {
     let f = fields_of(0, e);
-    fields_right(kinds::table::row(f.kind), f, len)
+    fields_right(kinds_table::row(f.kind), f, len)
 }
 
 // Number 11 is for these.
@@ -294,7 +294,7 @@ pub fn tm_instruction(e: Event) -> bool
     ensures { λ r. ⌜ r ≡ tm-instruction e ⌝ }
 {
     let f = fields_of(0, e);
-    let r = kinds::table::row(f.kind);
+    let r = kinds_table::row(f.kind);
     let when = r.tm;
     kinds::holds(when, f.x)
 }
@@ -304,7 +304,7 @@ pub fn privileged(e: Event) -> bool
     ensures { λ r. ⌜ r ≡ privileged e ⌝ }
 {
     let f = fields_of(0, e);
-    let r = kinds::table::row(f.kind);
+    let r = kinds_table::row(f.kind);
     let when = r.privileged;
     kinds::holds(when, f.x)
 }

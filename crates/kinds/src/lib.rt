@@ -1,13 +1,7 @@
-// A kind's row: what it uses each field for, and what follows. All rows: `table`.
-pub mod table;
-
+// A kind's row: what it uses each field for, and what follows. All rows: `kinds_table`.
 ghost use mathlib.Core.Path.{_≡_};
-ghost use mathlib.Core.Bool.{false};
 ghost use Prim.Native.Nat.{_<_};
-ghost use Rattle.kinds.specs.Rows.{line, used, tm-spr, srr, in-range, spans, addressed, in-memory, holds};
-ghost use Rattle.kinds.specs.declared.Use.the-variants.{No};
-ghost use Rattle.kinds.specs.declared.Span.the-variants.{Without};
-ghost use Rattle.kinds.specs.declared.When.the-variants.{Never, Always};
+ghost use Rattle.kinds.specs.Rows.{used, tm-spr, srr, in-range, spans, addressed, in-memory, holds};
 use base::CR_FIELDS;
 use base::DOUBLEWORD_BYTES;
 use base::GPRS;
@@ -49,70 +43,6 @@ pub struct Row {
     pub si: bool,
     pub tm: When,
     pub privileged: When,
-}
-
-// A row by its values, in the table's order.
-pub fn line(
-    x: Use,
-    ra: Use,
-    rb: Use,
-    flags: u8,
-    index: Span,
-    si: bool,
-    tm: When,
-    privileged: When,
-) -> Row
-    ensures { λ r. ⌜ r ≡ line x ra rb flags index si tm privileged ⌝ }
-{
-    Row {
-        x,
-        ra,
-        rb,
-        flags,
-        index,
-        si,
-        tm,
-        privileged,
-    }
-}
-
-// A TM instruction's row: X, RA, RB, the largest flags, and when it is privileged.
-pub fn tm_line(x: Use, ra: Use, rb: Use, flags: u8, privileged: When) -> Row
-    ensures { λ r. ⌜ r ≡ line x ra rb flags Without false Always privileged ⌝ }
-{
-    line(
-        x,
-        ra,
-        rb,
-        flags,
-        Span::Without,
-        false,
-        When::Always,
-        privileged,
-    )
-}
-
-// A load's or a store's row: the register that it loads or stores, and what its index names.
-pub fn access_line(x: Use, ra: Use, index: Span) -> Row
-    ensures { λ r. ⌜ r ≡ line x ra No 0 index false Never Never ⌝ }
-{
-    line(x, ra, Use::No, 0, index, false, When::Never, When::Never)
-}
-
-// The row of a kind that names no register and no place: the largest flags, and when it is privileged.
-pub fn bare_line(flags: u8, privileged: When) -> Row
-    ensures { λ r. ⌜ r ≡ line No No No flags Without false Never privileged ⌝ }
-{
-    line(
-        Use::No,
-        Use::No,
-        Use::No,
-        flags,
-        Span::Without,
-        false,
-        When::Never,
-        privileged,
-    )
 }
 
 // Whether the field is used at all: one that is not is 0 in a record.

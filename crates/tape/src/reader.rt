@@ -86,7 +86,7 @@ pub fn of_kind(f: Fields, zero: bool) -> Read
 {
     let kind = f.kind;
     match kind {
-        1..=26 => judged(f, zero, kinds::table::row(kind), event::event_of(f)),
+        1..=26 => judged(f, zero, kinds_table::row(kind), event::event_of(f)),
         _ => Read::Refused(answer::NO_KIND),
     }
 }

@@ -1,10 +1,10 @@
--- `kinds::table::row` meets its contract.
+-- `kinds_table::row` meets its contract.
 use mathlib.Core.Logic.{⊎-elim}
 use Rattle.kinds.specs.Rows.{row}
-use Rattle.kinds.proofs.Arms.{chosen, neighbour, past, low, high}
+use Rattle.kinds_table.proofs.Arms.{chosen, neighbour, past, low, high}
 use borrow.Author.Needs.{needs}
-use Rattle.kinds.proofs.table.row.Statement.{statement}
-use Rattle.kinds.proofs.table.row.Tie as tie
+use Rattle.kinds_table.proofs.row.Statement.{statement}
+use Rattle.kinds_table.proofs.row.Tie as tie
 
 tm-line-requires : tie.Need-tm-line-requires
 tm-line-requires c κs = search needs
