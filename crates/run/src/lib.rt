@@ -1,4 +1,6 @@
 // A tape run on a machine: the whole tape read first, then record by record (rules R1 to R5).
+pub mod records;
+
 ghost use mathlib.Core.Path.{_≡_};
 ghost use mathlib.Core.Bool.{true};
 ghost use Prim.Native.Nat.{_/_};
@@ -15,7 +17,6 @@ use base::THREADS;
 use base::answer;
 use buffer::put;
 use machine::Machine;
-use records::records;
 use rows::HEAD;
 use rows::VALUES;
 use run_rules::Ended;
@@ -46,7 +47,7 @@ fn run_valid(m: Machine, mem: &mut [u64], tape: &[u8], answers: &mut [u8]) -> En
         &mut vl,
         m,
     );
-    let s = records(
+    let s = records::records(
         &mut gpr,
         &mut cr,
         &mut kgpr,

@@ -1,19 +1,21 @@
 // A session: a tape that comes in pieces, cut at any byte (rules Q1 to Q8).
+pub mod pieces;
+
 ghost use mathlib.Core.Path.{_≡_};
 ghost use mathlib.Core.List.{List};
 ghost use Prim.Native.Nat.{ℕ};
 ghost use lib.Seq.{sets};
 ghost use Rattle.session_rules.specs.Session.{opened, idle, feed, close};
 use machine::Machine;
+use pieces::did;
+use pieces::feed_held;
 use run_rules::Ended;
-use session_pieces::did;
-use session_pieces::feed_held;
 use session_rules::Fed;
 use session_rules::HELD;
 use session_rules::Session;
-use session_value::first_of;
 use session_value::last_answer;
 use session_value::number;
+use session_value::stopped;
 
 // A session on a machine.
 pub fn opened(m: Machine, len: usize) -> Session
@@ -46,7 +48,7 @@ pub fn feed(s: Session, mem: &mut [u64], piece: &[u8], answers: &mut [u8]) -> Fe
     ensures { λ r. ⌜ now (mem .exit) ≡ feed s (now (mem .entry)) (now (piece .entry)) .memory ⌝ }
     ensures { λ r. ⌜ now (answers .exit) ≡ sets (now (answers .entry)) 0 (feed s (now (mem .entry)) (now (piece .entry)) .answers) ⌝ }
 {
-    let n = first_of(number(s, mem.len()), s.answer);
+    let n = stopped(s, mem.len());
     if n != 0 {
         return idle(n, s);
     }

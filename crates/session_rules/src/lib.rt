@@ -1,4 +1,4 @@
-// A tape that comes in pieces, by definition (rules Q1 to Q9): `specs`. The code is in session_value, session_pieces and session.
+// A tape that comes in pieces, by definition (rules Q1 to Q9): `specs`. The code is in session_value and session.
 use machine::Machine;
 
 // The most bytes that are held. specs/Value.antt has the same number for the definitions.

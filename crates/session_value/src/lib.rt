@@ -1,4 +1,5 @@
-// A session as a value, and what feeding it gives: which values are sessions, bytes held and joined, the last answer (rules Q1, Q2, Q7 and Q8).
+// A session as a value, and what feeding it gives: which values are sessions, bytes held and joined, why it is not fed, the last answer (rules
+// Q1, Q2, Q4, Q5, Q7 and Q8).
 ghost use mathlib.Core.Path.{_≡_};
 ghost use mathlib.Core.Bool.{cond};
 ghost use mathlib.Core.List.{_++_};
@@ -72,6 +73,13 @@ pub fn number(s: Session, len: usize) -> u8
         return first_of(n, answer::DONE);
     }
     first_of(n, answer::NO_MACHINE)
+}
+
+// Why a piece is not fed: the number that refuses the session, else the answer that stopped it (rules Q4 and Q5).
+pub fn stopped(s: Session, len: usize) -> u8
+    ensures { λ r. ⌜ r ≡ first-of (number s len) (s .answer) ⌝ }
+{
+    first_of(number(s, len), s.answer)
 }
 
 // Bytes as they are held.

@@ -1,6 +1,4 @@
-// One event: refused by a number with nothing changed, or done on its own thread, on the others and on memory.
-pub mod place;
-
+// One event on a machine by value: refused by a number with nothing changed, or done. What it does: `step_place`, on rows.
 ghost use mathlib.Core.Path.{_≡_};
 ghost use mathlib.Core.Bool.{true};
 ghost use lib.ListN.{length};
@@ -39,7 +37,7 @@ fn step_valid(m: Machine, mem: &mut [u64], thread: u8, e: Event) -> Done
         &mut vl,
         m,
     );
-    let answer = place::step(
+    let answer = step_place::step(
         &mut gpr,
         &mut cr,
         &mut kgpr,

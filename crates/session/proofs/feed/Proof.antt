@@ -17,15 +17,15 @@ use borrow.Author.Needs.{needs}
 use Rattle.session.proofs.feed.Statement.{statement}
 use Rattle.session.proofs.feed.Tie as tie
 
-abbrev start : tie.After-first-of → tie.Start
-start c = c .before .before .before .before .before
+abbrev start : tie.After-stopped → tie.Start
+start c = c .before .before .before .before
 
 -- the number that keeps the piece from being fed
-abbrev why : tie.After-first-of → ℕ
+abbrev why : tie.After-stopped → ℕ
 why c = let a = start c .args in first-of (number (a .s) (length (a .mem .now))) (a .s .answer)
 
-is-why : (c : tie.After-first-of) → c .first-of .result ≡ why c
-is-why c = c .first-of .ensures ∙ ap (λ (n : ℕ). first-of n (start c .args .s .answer)) (c .before .number .ensures)
+is-why : (c : tie.After-stopped) → c .stopped .result ≡ why c
+is-why c = c .stopped .ensures
 
 -- where there is none the session is one, and goes on
 ready : (c : tie.Else1) → let a = start (c .before) .args in
@@ -41,11 +41,8 @@ fed-on c =
     let a = start (c .before) .args in
     ap (λ (b : Bool). cond b (feed-on (a .s) (a .mem .now) (a .piece .now)) (idle (why (c .before)) (a .s) (a .mem .now))) (eq-eqb _ 0 (sym (is-why (c .before)) ∙ c .if1 .left))
 
-number-requires : tie.Need-number-requires
-number-requires c κs = search needs
-
-first-of-requires : tie.Need-first-of-requires
-first-of-requires c κs = search needs
+stopped-requires : tie.Need-stopped-requires
+stopped-requires c κs = search needs
 
 idle-requires : tie.Need-idle-requires
 idle-requires c κs = search needs
@@ -107,8 +104,7 @@ pub feed-spec : {M : Type 1} → statement M
 feed-spec =
     tie.close
     (tie.spec
-    number-requires
-    first-of-requires
+    stopped-requires
     idle-requires
     returns
     did-requires
