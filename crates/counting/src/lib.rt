@@ -14,7 +14,7 @@ pub struct Stopped {
 }
 
 // The run goes on after 0, 20 and 21.
-fn goes_on(answer: u8) -> bool
+pub fn goes_on(answer: u8) -> bool
     ensures { λ r. ⌜ r ≡ goes-on answer ⌝ }
 {
     if answer == answer::DONE {

@@ -2,6 +2,7 @@
 pub mod told;
 
 use base::answer;
+use counting::goes_on;
 use event::Event;
 use libc::STDERR_FILENO;
 use tape::FIRST_BYTE;
@@ -224,9 +225,9 @@ fn whole(bytes: usize) {
 // Of a tape that was run: nothing where it ended.
 fn ran(input: &[u8], t: Told) {
     let n = t.answer;
-    match n {
-        0 | 20 | 21 => {}
-        _ => stopped(input, t.count as usize, n),
+    // An answer is a byte.
+    if !goes_on((n % 256) as u8) {
+        stopped(input, t.count as usize, n);
     }
 }
 

@@ -1,9 +1,9 @@
--- `test_vectors_lib::line` is safe and ends.
+-- `test_vectors::vectors::line` is safe and ends.
 use mathlib.Core.Path.{sym}
 use lib.Seq.{length-take-le}
 use borrow.Author.Needs.{needs}
-use Rattle.test_vectors_lib.proofs.line.Statement.{statement}
-use Rattle.test_vectors_lib.proofs.line.Tie as tie
+use Rattle.test_vectors.proofs.vectors.line.Statement.{statement}
+use Rattle.test_vectors.proofs.vectors.line.Tie as tie
 
 find-requires : tie.Need-find-requires
 find-requires c κs = search needs

@@ -1,9 +1,9 @@
--- `test_vectors_lib::lines` is safe and ends.
+-- `test_vectors::vectors::lines` is safe and ends.
 use Prim.Native.Nat.{_-_}
 use lib.ListN.{length}
 use borrow.Author.Needs.{needs}
-use Rattle.test_vectors_lib.proofs.lines.Statement.{statement}
-use Rattle.test_vectors_lib.proofs.lines.Tie as tie
+use Rattle.test_vectors.proofs.vectors.lines.Statement.{statement}
+use Rattle.test_vectors.proofs.vectors.lines.Tie as tie
 
 abbrev Inv-loop : tie.InvT-loop
 Inv-loop s at₀ at = Unit

@@ -1,10 +1,10 @@
--- `test_vectors_lib::items` is safe and ends.
+-- `test_vectors::vectors::items` is safe and ends.
 use mathlib.Core.Path.{_≡_}
 use Prim.Native.Nat.{_≤_, _-_, _+_}
 use lib.ListN.{length}
 use borrow.Author.Needs.{needs}
-use Rattle.test_vectors_lib.proofs.items.Statement.{statement}
-use Rattle.test_vectors_lib.proofs.items.Tie as tie
+use Rattle.test_vectors.proofs.vectors.items.Statement.{statement}
+use Rattle.test_vectors.proofs.vectors.items.Tie as tie
 
 abbrev Inv-loop : tie.InvT-loop
 Inv-loop s mem₀ w₀ at₀ mem w at = (4112 ≡ length mem) × (at ≤ length s + 2)

@@ -1,9 +1,9 @@
--- `test_vectors_lib::record` is safe and ends.
+-- `test_vectors::vectors::record` is safe and ends.
 use mathlib.Core.Path.{sym}
 use lib.Seq.{length-take-le}
 use borrow.Author.Needs.{needs}
-use Rattle.test_vectors_lib.proofs.record.Statement.{statement}
-use Rattle.test_vectors_lib.proofs.record.Tie as tie
+use Rattle.test_vectors.proofs.vectors.record.Statement.{statement}
+use Rattle.test_vectors.proofs.vectors.record.Tie as tie
 
 slice-aggregate-read : tie.Need-slice-aggregate-read
 slice-aggregate-read c = search needs
