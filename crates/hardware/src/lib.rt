@@ -1,5 +1,5 @@
-// A failure that an event recorded, as a POWER processor shows it, and a value read on one judged against it (rules B1 to B9). The bits of
-// TEXASR that the Power ISA text fixes, and those that it leaves free: docs/ISA-DIFFERENCES.md has the reasons.
+// A failure that an event recorded, as a POWER processor shows it (rules B2 to B5): the bits of TEXASR that the Power ISA text fixes, and those
+// that it leaves free; docs/ISA-DIFFERENCES.md has the reasons. A value read on one is judged in crate `verdict`, by definitions of this one.
 pub mod fields;
 pub mod render;
 pub mod table;

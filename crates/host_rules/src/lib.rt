@@ -1,4 +1,4 @@
-// What a host gets for what it hands in, by definition (rules H1 to H10): `specs`. The code is in failed and host.
+// What a host gets for what it hands in, by definition (rules H1 to H10): `specs`. The code is in host_parts and host.
 use crossing::RawMachine;
 use event::Fields;
 

@@ -1,4 +1,4 @@
-// A tape run on a machine, by definition (rules R1 to R5): `specs`. The code is in records and run.
+// A tape run on a machine, by definition (rules R1 to R5): `specs`. The code is in counting and run.
 use machine::Machine;
 
 // The answer that ended the run (0 at the tape's end), how many records were done, the index of the record that the answer is about, and the

@@ -1,5 +1,5 @@
 // What an event does to the machine, by definition: its effect by its kind, the others that it makes fail, its refusal, the step: `specs`. The code
-// is in power_effect, conflict, refusal and step.
+// is in power_effect, conflict_one and conflict, refusal_there and refusal, step_place and step.
 use machine::Machine;
 
 // A step's answer and the machine after it.

@@ -1,4 +1,4 @@
-// A value read on a processor, judged.
+// A value read on a processor, judged against the one that `hardware` has for it (rules B1, B6 to B8). On plain numbers: `raw`.
 pub mod raw;
 
 ghost use mathlib.Core.Path.{_≡_};
