@@ -9,7 +9,7 @@ ghost use Rattle.run_rules.specs.Records.{run_result, goes_on, counted};
 use base::answer;
 
 // The answer that ended a run, and how many records were done.
-#[derive(Drop)]
+#[derive(Clone, Copy)]
 pub struct Stopped {
     pub answer: u8,
     pub count: usize,

@@ -10,7 +10,7 @@ use transaction::Transaction;
 
 // The control registers with their flags as bytes: 0 or 1, and 0, 1, 2 for N, T, S.
 #[repr(C)]
-#[derive(Drop)]
+#[derive(Clone, Copy)]
 pub struct RawControl {
     pub nia: u64,
     pub pr: u8,
@@ -25,7 +25,7 @@ pub struct RawControl {
 }
 
 #[repr(C)]
-#[derive(Drop)]
+#[derive(Clone, Copy)]
 pub struct RawThread {
     pub live: Registers,
     pub cr0: u8,
@@ -35,7 +35,7 @@ pub struct RawThread {
 }
 
 #[repr(C)]
-#[derive(Drop)]
+#[derive(Clone, Copy)]
 pub struct RawMachine {
     pub count: usize,
     pub threads: [RawThread; 4],

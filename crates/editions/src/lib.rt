@@ -11,7 +11,7 @@ use base::answer;
 use event::{Event, Fields};
 use tape::{RECORD_SIZE, Read};
 
-#[derive(Drop)]
+#[derive(Clone, Copy)]
 pub enum Edition {
     Two,
     Three,

@@ -9,7 +9,7 @@ use kinds::Row;
 
 // Operands take any value of their width: the step refuses what is out of range. The thread is named beside the event. mtmsrd's T and S are
 // TS in two bits, the higher first.
-#[derive(Drop)]
+#[derive(Clone, Copy)]
 pub enum Event {
     Tbegin {
         r: bool,
@@ -123,7 +123,7 @@ pub const TLBIE: u8 = 26;
 // What a record holds, whatever its layout. X is SPR, BF or TO, else RT; RA is RT for mfspr; flags are R, A, L, PR + 2 x TM or
 // TS + 4 x TM + 8 x PR.
 #[repr(C)]
-#[derive(Drop)]
+#[derive(Clone, Copy)]
 pub struct Fields {
     pub kind: u8,
     pub thread: u8,

@@ -7,7 +7,7 @@ pub mod render;
 pub mod table;
 
 // What a processor has in bit 7 after a nesting overflow: the text is of two minds.
-#[derive(Drop)]
+#[derive(Clone, Copy)]
 pub enum Seventh {
     Free,
     Zero,
@@ -15,7 +15,7 @@ pub enum Seventh {
 }
 
 // What is known of the processor: the highest level, HV, whether an imprecise failure may be recorded late, and bit 7 of nesting.
-#[derive(Drop)]
+#[derive(Clone, Copy)]
 pub struct Profile {
     pub highest: u64,
     pub hv: bool,
@@ -24,7 +24,7 @@ pub struct Profile {
 }
 
 // The value is the one that the text asks for; it is another, as the text allows; it contradicts the text, or the tape.
-#[derive(Drop)]
+#[derive(Clone, Copy)]
 pub enum Verdict {
     Equal,
     Allowed,
@@ -32,14 +32,14 @@ pub enum Verdict {
 }
 
 // A verdict with the bits that decide it.
-#[derive(Drop)]
+#[derive(Clone, Copy)]
 pub struct Judged {
     pub verdict: Verdict,
     pub bits: u64,
 }
 
 // The registers that tell of a failure, as a handler reads them.
-#[derive(Drop)]
+#[derive(Clone, Copy)]
 pub struct Registers {
     pub texasr: u64,
     pub tfiar: u64,
@@ -48,7 +48,7 @@ pub struct Registers {
 }
 
 // A verdict on all four, with the bits of each that decide it.
-#[derive(Drop)]
+#[derive(Clone, Copy)]
 pub struct Compared {
     pub verdict: Verdict,
     pub texasr: u64,

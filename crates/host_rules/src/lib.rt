@@ -6,7 +6,7 @@ use event::Fields;
 
 // A step's answer, the threads that failed in it (rule H8: bit v for thread v), and the machine after it.
 #[repr(C)]
-#[derive(Drop)]
+#[derive(Clone, Copy)]
 pub struct RawDone {
     pub answer: u8,
     pub failed: u8,
@@ -16,7 +16,7 @@ pub struct RawDone {
 // The answer that ended a run, how many records were done, the index of the record that the answer is about, and the machine after exactly
 // the records done.
 #[repr(C)]
-#[derive(Drop)]
+#[derive(Clone, Copy)]
 pub struct RawEnded {
     pub answer: u8,
     pub count: usize,
@@ -26,7 +26,7 @@ pub struct RawEnded {
 
 // A reader's answer: 0 and the event, or a number and zeros.
 #[repr(C)]
-#[derive(Drop)]
+#[derive(Clone, Copy)]
 pub struct RawRecord {
     pub answer: u8,
     pub event: Fields,
@@ -34,7 +34,7 @@ pub struct RawRecord {
 
 // A session between two pieces (rule Q1), its machine as plain numbers.
 #[repr(C)]
-#[derive(Drop)]
+#[derive(Clone, Copy)]
 pub struct RawSession {
     pub machine: RawMachine,
     pub count: usize,
@@ -45,7 +45,7 @@ pub struct RawSession {
 
 // What feeding a piece gives: an answer, how many records it finished, and the session behind it.
 #[repr(C)]
-#[derive(Drop)]
+#[derive(Clone, Copy)]
 pub struct RawFed {
     pub answer: u8,
     pub finished: usize,

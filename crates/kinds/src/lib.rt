@@ -7,7 +7,7 @@ ghost use Rattle.kinds.specs.Rows.{used, tm_spr, srr, in_range, spans, addressed
 use base::{CR_FIELDS, DOUBLEWORD_BYTES, GPRS};
 
 // What a kind uses a field for.
-#[derive(Drop)]
+#[derive(Clone, Copy)]
 pub enum Use {
     No,
     Gpr,
@@ -17,7 +17,7 @@ pub enum Use {
 }
 
 // What a kind's index names: nothing, a doubleword, one, two or four bytes by the first one's address, or a page.
-#[derive(Drop)]
+#[derive(Clone, Copy)]
 pub enum Span {
     Without,
     Doubleword,
@@ -28,7 +28,7 @@ pub enum Span {
 }
 
 // Whether a kind is a TM instruction, or privileged: a function of X. Two are for SPR 128 to 131, and for SPR 26 and 27.
-#[derive(Drop)]
+#[derive(Clone, Copy)]
 pub enum When {
     Never,
     Always,
@@ -37,7 +37,7 @@ pub enum When {
 }
 
 // The fields X, RA and RB, the largest flags, the fields index and SI, and what the kind is.
-#[derive(Drop)]
+#[derive(Clone, Copy)]
 pub struct Row {
     pub x: Use,
     pub ra: Use,

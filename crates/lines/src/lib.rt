@@ -9,7 +9,7 @@ ghost use Rattle.lines.specs.Lines.{empty, with, meets, footprint};
 use base::WORDS;
 
 #[repr(C)]
-#[derive(Drop)]
+#[derive(Clone, Copy)]
 pub struct LineSet {
     pub words: [u64; WORDS],
 }

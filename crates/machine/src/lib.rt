@@ -7,7 +7,7 @@ ghost use Rattle.machine.specs.Machine.{fresh};
 use base::{CR_FIELDS, GPRS, THREADS};
 use thread::{Control, Failure, Msr, Registers, Saved, State, Thread};
 
-#[derive(Drop)]
+#[derive(Clone, Copy)]
 pub struct Machine {
     pub count: usize,
     pub threads: [Thread; THREADS],

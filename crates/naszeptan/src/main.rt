@@ -11,7 +11,7 @@ use text_lines::LONGEST;
 const BUFFER: usize = 65537;
 
 // What was read: how many bytes, and whether a read failed.
-#[derive(Drop)]
+#[derive(Clone, Copy)]
 struct Got {
     n: usize,
     failed: bool,

@@ -24,7 +24,7 @@ use thread::turns::Asked;
 use transaction::Touch;
 
 // The events that are done by value.
-#[derive(Drop)]
+#[derive(Clone, Copy)]
 pub enum Rare {
     Mtspr { spr: u8, ra: u8 },
     Treclaim { ra: u8 },
@@ -75,7 +75,7 @@ fn quiet(answer: u8) -> Went
 }
 
 // What an event loads or stores, if it does: some bytes of a doubleword, the lowest of them byte `low`.
-#[derive(Drop)]
+#[derive(Clone, Copy)]
 pub enum Access {
     Load {
         rt: u8,

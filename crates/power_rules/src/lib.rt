@@ -4,7 +4,7 @@
 use thread::Thread;
 
 // The answer, 0, 20 or 21, and the thread afterwards.
-#[derive(Drop)]
+#[derive(Clone, Copy)]
 pub struct Did {
     pub answer: u8,
     pub thread: Thread,

@@ -15,7 +15,7 @@ use thread::{Control, Failure, Msr, Saved, State};
 use transaction::Touch;
 
 // What a row of words holds, by value.
-#[derive(Drop)]
+#[derive(Clone, Copy)]
 pub struct Head {
     pub control: Control,
     pub cr0: u8,
@@ -25,7 +25,7 @@ pub struct Head {
 }
 
 // What an event leaves beside its thread and the memory: its answer and what it touched.
-#[derive(Drop)]
+#[derive(Clone, Copy)]
 pub struct Went {
     pub answer: u8,
     pub touch: Touch,

@@ -5,7 +5,7 @@ use machine::Machine;
 
 // The answer that ended the run (0 at the tape's end), how many records were done, the index of the record that the answer is about, and the
 // machine after exactly the records done.
-#[derive(Drop)]
+#[derive(Clone, Copy)]
 pub struct Ended {
     pub answer: u8,
     pub count: usize,

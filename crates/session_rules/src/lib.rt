@@ -8,7 +8,7 @@ pub const HELD: usize = 15;
 
 // A session, kept by the caller between the pieces: the machine, the count of records done (modulo 2^64), how many bytes of an unfinished record are
 // held, the answer (0 until a record stopped it), and the held bytes, with zeros behind them.
-#[derive(Drop)]
+#[derive(Clone, Copy)]
 pub struct Session {
     pub machine: Machine,
     pub count: usize,
@@ -18,7 +18,7 @@ pub struct Session {
 }
 
 // What feeding a piece gives: an answer, how many records it finished, the one that stopped it among them, and the session behind it.
-#[derive(Drop)]
+#[derive(Clone, Copy)]
 pub struct Fed {
     pub answer: u8,
     pub finished: usize,

@@ -5,7 +5,7 @@
 use machine::Machine;
 
 // A step's answer and the machine after it.
-#[derive(Drop)]
+#[derive(Clone, Copy)]
 pub struct Done {
     pub answer: u8,
     pub machine: Machine,

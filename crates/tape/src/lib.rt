@@ -15,7 +15,7 @@ pub const RECORD_SIZE: usize = 16;
 pub const FIRST_BYTE: u8 = 0xE3;
 
 // What the reader answers: the thread and the event of a record, or the number by which it is refused: 6, 7, 8 or 9.
-#[derive(Drop)]
+#[derive(Clone, Copy)]
 pub enum Read {
     Record { thread: u8, event: Event },
     Refused(u8),
@@ -23,7 +23,7 @@ pub enum Read {
 
 // The first record of a tape that is refused, by its number and its index; or 0 and the number of records.
 #[repr(C)]
-#[derive(Drop)]
+#[derive(Clone, Copy)]
 pub struct Found {
     pub answer: u8,
     pub index: usize,

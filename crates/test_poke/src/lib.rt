@@ -23,7 +23,7 @@ use thread::{Control, Failure, Msr, Registers, Saved, State, Thread};
 use transaction::{Entry, Transaction};
 
 // A machine, and how many doublewords of the memory beside it are lent.
-#[derive(Drop)]
+#[derive(Clone, Copy)]
 pub struct World {
     pub machine: Machine,
     pub lent: usize,

@@ -13,14 +13,14 @@ use transaction::{Cause, Touch, Transaction, Write};
 
 // 32 general registers, and CR fields 1 to 7: cr[0] is field 1. CR0 stands apart, since no checkpoint holds it.
 #[repr(C)]
-#[derive(Drop)]
+#[derive(Clone, Copy)]
 pub struct Registers {
     pub gpr: [u64; GPRS],
     pub cr: [u8; CR_FIELDS],
 }
 
 // Non-transactional, Transactional, Suspended.
-#[derive(Drop)]
+#[derive(Clone, Copy)]
 pub enum State {
     N,
     T,
@@ -28,7 +28,7 @@ pub enum State {
 }
 
 // The machine state, which an interrupt changes: PR, TM, the transaction's state, and TDOOMED.
-#[derive(Drop)]
+#[derive(Clone, Copy)]
 pub struct Msr {
     pub pr: bool,
     pub tm: bool,
@@ -37,7 +37,7 @@ pub struct Msr {
 }
 
 // The failure registers.
-#[derive(Drop)]
+#[derive(Clone, Copy)]
 pub struct Failure {
     pub tfhar: u64,
     pub tfiar: u64,
@@ -45,14 +45,14 @@ pub struct Failure {
 }
 
 // What an interrupt saved: the next address in SRR0, TS, TM and PR in SRR1.
-#[derive(Drop)]
+#[derive(Clone, Copy)]
 pub struct Saved {
     pub srr0: u64,
     pub srr1: u64,
 }
 
 // The next address, the machine state, the failure registers, and what an interrupt saved.
-#[derive(Drop)]
+#[derive(Clone, Copy)]
 pub struct Control {
     pub nia: u64,
     pub msr: Msr,
@@ -60,7 +60,7 @@ pub struct Control {
     pub saved: Saved,
 }
 
-#[derive(Drop)]
+#[derive(Clone, Copy)]
 pub struct Thread {
     pub live: Registers,
     pub cr0: u8,
@@ -70,7 +70,7 @@ pub struct Thread {
 }
 
 // What an event does, decided before anything changes: its answer, its own thread afterwards, what it touches and what it writes.
-#[derive(Drop)]
+#[derive(Clone, Copy)]
 pub struct Effect {
     pub answer: u8,
     pub thread: Thread,

@@ -5,7 +5,7 @@ ghost use Rattle.thread.specs.Turns.{ts, srr1_of, by_srr1, table, turned, is_bad
 use crate::{Msr, State};
 
 // What is asked: bits 29 and 30 of TS, which are T and S; TM; PR.
-#[derive(Drop)]
+#[derive(Clone, Copy)]
 pub struct Asked {
     pub t: bool,
     pub s: bool,
@@ -14,7 +14,7 @@ pub struct Asked {
 }
 
 // What comes of it: a Bad Thing; a failure, in T; or a state and TM.
-#[derive(Drop)]
+#[derive(Clone, Copy)]
 pub enum Turn {
     Bad,
     Fails,

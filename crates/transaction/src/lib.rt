@@ -10,7 +10,7 @@ use lines::LineSet;
 
 // A place of the log: a doubleword's index, a mark for each byte that was stored to it, and its bytes, 0 where none was stored.
 #[repr(C)]
-#[derive(Drop)]
+#[derive(Clone, Copy)]
 pub struct Entry {
     pub index: u32,
     pub marks: u8,
@@ -19,7 +19,7 @@ pub struct Entry {
 
 // The line sets stand beside the log's entry count; the log's places past the count are zero.
 #[repr(C)]
-#[derive(Drop)]
+#[derive(Clone, Copy)]
 pub struct Transaction {
     pub reads: LineSet,
     pub writes: LineSet,
@@ -28,14 +28,14 @@ pub struct Transaction {
 }
 
 // Where the log has a doubleword.
-#[derive(Drop)]
+#[derive(Clone, Copy)]
 pub enum Found {
     At(usize),
     Absent,
 }
 
 // Why a transaction fails. How that is recorded is its thread's family's affair.
-#[derive(Drop)]
+#[derive(Clone, Copy)]
 pub enum Cause {
     Disallowed,
     Nesting,
@@ -48,7 +48,7 @@ pub enum Cause {
 }
 
 // What an event touches: nothing, a line by a load or by a store, or a page by a tlbie. Other threads' transactions are held against it.
-#[derive(Drop)]
+#[derive(Clone, Copy)]
 pub enum Touch {
     Untouched,
     Load(usize),
@@ -57,7 +57,7 @@ pub enum Touch {
 }
 
 // What an event writes to memory: nothing, marked bytes of a doubleword, or the log of its thread's transaction.
-#[derive(Drop)]
+#[derive(Clone, Copy)]
 pub enum Write {
     Unwritten,
     Bytes { index: u32, marks: u8, value: u64 },

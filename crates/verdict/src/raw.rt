@@ -7,7 +7,7 @@ use hardware::{Compared, Profile, Registers, Seventh, Verdict, fields, render, t
 
 // A profile: bit 7 of nesting is 0, 1, or 2 where it is free.
 #[repr(C)]
-#[derive(Drop)]
+#[derive(Clone, Copy)]
 pub struct RawProfile {
     pub highest: u64,
     pub hv: u8,
@@ -16,7 +16,7 @@ pub struct RawProfile {
 }
 
 #[repr(C)]
-#[derive(Drop)]
+#[derive(Clone, Copy)]
 pub struct RawRegisters {
     pub texasr: u64,
     pub tfiar: u64,
@@ -26,7 +26,7 @@ pub struct RawRegisters {
 
 // 0 with what hardware shows and the bits that are fixed; or 4 and zeros.
 #[repr(C)]
-#[derive(Drop)]
+#[derive(Clone, Copy)]
 pub struct RawShown {
     pub answer: u8,
     pub value: u64,
@@ -35,7 +35,7 @@ pub struct RawShown {
 
 // 0 with the verdict, 0 equal, 1 allowed, 2 contradicts, and the bits that decide it; or 4 and zeros.
 #[repr(C)]
-#[derive(Drop)]
+#[derive(Clone, Copy)]
 pub struct RawVerdict {
     pub answer: u8,
     pub verdict: u8,

@@ -2,7 +2,7 @@
 // the tape is not run a second time. A tape that was not run is not told of from here.
 
 // The number that is being read, that of the last line ended, and that of the line before it.
-#[derive(Drop)]
+#[derive(Clone, Copy)]
 pub struct Told {
     digits: u32,
     pub count: u32,
