@@ -2,61 +2,76 @@
 // stopped to standard error.
 #![tactic(auto)]
 
-ghost use Rattle.io.specs.Counts.{IsPrefixLen};
+ghost use Rattle.std.specs.Counts.{IsPrefixLen};
 
-use libc::{STDIN_FILENO, STDOUT_FILENO};
+use std::io;
+use std::io::Read;
 use text_lines::LONGEST;
 
 // One byte more than the longest input, so that a longer one is seen to be too long.
 const BUFFER: usize = 65537;
 
-// What was read: how many bytes, and whether a read failed.
+// What was read: how many bytes, and why a read failed.
 #[derive(Clone, Copy)]
 struct Got {
     n: usize,
-    failed: bool,
+    failed: Option<io::Error>,
 }
 
-// Reads until the buffer is full or the input ends, or a read fails: io::read_full does not tell these two ends apart.
-fn read_all(buf: &mut [u8]) -> Got
+// Reads until the buffer is full or the input ends, or a read fails.
+fn read_all<R: Read>(from: &mut R, buf: &mut [u8]) -> Got
     ensures { IsPrefixLen result.n buf.new }
 {
     let mut n: usize = 0;
     while n < buf.len() {
         let rest = &mut buf[n..];
-        let got = libc::read(STDIN_FILENO, rest);
-        if got < 0 {
-            return Got { n, failed: true };
+        match from.read(rest) {
+            Ok(0) => break,
+            Ok(more) => n += more,
+            Err(error) => {
+                return Got {
+                    n,
+                    failed: Some(error),
+                };
+            }
         }
-        let more = io::count(got, rest);
-        if more == 0 {
-            break;
-        }
-        n += more;
     }
-    Got { n, failed: false }
+    Got { n, failed: None }
+}
+
+// The system's words for an error, without its number.
+fn without_number(text: &str) -> &str {
+    match text.split_once(" (os error ") {
+        Some((words, _)) => words,
+        None => text,
+    }
+}
+
+// What failed, and why.
+fn fail(rt: &HostRuntime, what: &str, error: io::Error) -> io::Result<()> {
+    let text = format!(in rt.alloc(); "{error}")?;
+    let words = without_number(text.as_str());
+    eprintln!(rt; "naszeptan: {what}: {words}")
 }
 
 // The text of the input, written, and then why the run stopped, so that standard error has at most one line.
-fn answer(input: &[u8]) {
+fn answer(rt: &HostRuntime, input: &[u8]) -> io::Result<()> {
     let mut out = [0u8; LONGEST];
     let r = text::text(input, &mut out);
     let text = &out[..r];
-    if !io::write_all(STDOUT_FILENO, text) {
-        os::fail(b"naszeptan: standard output");
-        return;
+    match rt.write_all(text) {
+        Ok(()) => words::tell(rt, input, words::told::last(text)),
+        Err(error) => fail(rt, "standard output", error),
     }
-    words::tell(input, words::told::last(text));
 }
 
 // No contract can say what is read or written: all the work is in text::text.
-fn main() {
+fn main(rt: HostRuntime) {
     let mut input = [0u8; BUFFER];
-    let got = read_all(&mut input);
-    if got.failed {
-        os::fail(b"naszeptan: standard input");
-        return;
-    }
-    let n = got.n;
-    answer(&input[..n]);
+    let got = read_all(&mut rt.stdin(), &mut input);
+    // Where standard error fails too, nobody is left to be told.
+    let _ = match got.failed {
+        None => answer(&rt, &input[..got.n]),
+        Some(error) => fail(&rt, "standard input", error),
+    };
 }

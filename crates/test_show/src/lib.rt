@@ -13,53 +13,40 @@
 use base::bit;
 use lines::LineSet;
 use machine::Machine;
+use std::io;
+use std::io::Write;
 use thread::{Control, Registers, State, Thread};
 use transaction::{Entry, Transaction};
 
-fn head(w: usize, name: &[u8]) {
-    io::write_all(1, b" t");
-    io::print_decimal(1, w as u64);
-    io::write_all(1, b".");
-    io::write_all(1, name);
-}
-
-fn value(v: u64) {
-    io::write_all(1, b"=");
-    io::print_hex(1, v, 1);
-}
-
 // A field of thread w, where it is not as in a fresh thread.
-fn field(w: usize, name: &[u8], v: u64, fresh: u64) {
-    if v != fresh {
-        head(w, name);
-        value(v);
+fn field<W: Write>(out: &mut W, w: usize, name: &str, v: u64, fresh: u64) -> io::Result<()> {
+    if v == fresh {
+        return Ok(());
     }
+    write!(out, " t{w}.{name}={v:x}")
 }
 
 // A field at a place, where it is not 0.
-fn place(w: usize, name: &[u8], i: usize, v: u64) {
-    if v != 0 {
-        head(w, name);
-        io::print_decimal(1, i as u64);
-        value(v);
+fn place<W: Write>(out: &mut W, w: usize, name: &str, i: usize, v: u64) -> io::Result<()> {
+    if v == 0 {
+        return Ok(());
     }
+    write!(out, " t{w}.{name}{i}={v:x}")
 }
 
-fn gprs(w: usize, name: &[u8], r: Registers) {
+fn gprs<W: Write>(out: &mut W, w: usize, name: &str, r: &Registers) -> io::Result<()> {
     for i in 0..32 {
-        place(w, name, i, r.gpr[i]);
+        place(out, w, name, i, r.gpr[i])?;
     }
-}
-
-fn wide(b: u8) -> u64 {
-    b as u64
+    Ok(())
 }
 
 // CR fields 1 to 7.
-fn crs(w: usize, name: &[u8], r: Registers) {
+fn crs<W: Write>(out: &mut W, w: usize, name: &str, r: &Registers) -> io::Result<()> {
     for i in 0..7 {
-        place(w, name, i + 1, wide(r.cr[i]));
+        place(out, w, name, i + 1, u64::from(r.cr[i]))?;
     }
+    Ok(())
 }
 
 fn state(s: State) -> u64 {
@@ -70,94 +57,88 @@ fn state(s: State) -> u64 {
     }
 }
 
-fn control(w: usize, k: Control) {
+fn control<W: Write>(out: &mut W, w: usize, k: &Control) -> io::Result<()> {
     let m = k.msr;
     let f = k.failure;
     let v = k.saved;
-    let s = m.state;
-    field(w, b"nia", k.nia, 0);
-    field(w, b"pr", bit(m.pr), 1);
-    field(w, b"tm", bit(m.tm), 1);
-    field(w, b"state", state(s), 0);
-    field(w, b"doomed", bit(m.doomed), 0);
-    field(w, b"tfhar", f.tfhar, 0);
-    field(w, b"tfiar", f.tfiar, 0);
-    field(w, b"texasr", f.texasr, 0);
-    field(w, b"srr0", v.srr0, 0);
-    field(w, b"srr1", v.srr1, 0);
+    field(out, w, "nia", k.nia, 0)?;
+    field(out, w, "pr", bit(m.pr), 1)?;
+    field(out, w, "tm", bit(m.tm), 1)?;
+    field(out, w, "state", state(m.state), 0)?;
+    field(out, w, "doomed", bit(m.doomed), 0)?;
+    field(out, w, "tfhar", f.tfhar, 0)?;
+    field(out, w, "tfiar", f.tfiar, 0)?;
+    field(out, w, "texasr", f.texasr, 0)?;
+    field(out, w, "srr0", v.srr0, 0)?;
+    field(out, w, "srr1", v.srr1, 0)
 }
 
-fn words(w: usize, name: &[u8], s: LineSet) {
+fn words<W: Write>(out: &mut W, w: usize, name: &str, s: &LineSet) -> io::Result<()> {
     for i in 0..4 {
-        place(w, name, i, s.words[i]);
+        place(out, w, name, i, s.words[i])?;
     }
+    Ok(())
 }
 
 // The marks of a place, unless all bytes are marked. Marks that are 0 are shown where the place holds anything else.
-fn marks(w: usize, i: usize, e: Entry) {
+fn marks<W: Write>(out: &mut W, w: usize, i: usize, e: Entry) -> io::Result<()> {
     if e.marks == 255 {
-        return;
+        return Ok(());
     }
     if (e.marks == 0) & (e.index == 0) & (e.value == 0) {
-        return;
+        return Ok(());
     }
-    head(w, b"marks");
-    io::print_decimal(1, i as u64);
-    value(e.marks as u64);
+    let v = e.marks;
+    write!(out, " t{w}.marks{i}={v:x}")
 }
 
-fn log(w: usize, x: Transaction) {
+fn log<W: Write>(out: &mut W, w: usize, x: &Transaction) -> io::Result<()> {
     for i in 0..64 {
         let e = x.log[i];
-        place(w, b"index", i, e.index as u64);
-        marks(w, i, e);
-        place(w, b"value", i, e.value);
+        place(out, w, "index", i, u64::from(e.index))?;
+        marks(out, w, i, e)?;
+        place(out, w, "value", i, e.value)?;
     }
+    Ok(())
 }
 
-fn transaction(w: usize, x: Transaction) {
-    words(w, b"reads", x.reads);
-    words(w, b"writes", x.writes);
-    field(w, b"used", x.count as u64, 0);
-    log(w, x);
+fn transaction<W: Write>(out: &mut W, w: usize, x: &Transaction) -> io::Result<()> {
+    words(out, w, "reads", &x.reads)?;
+    words(out, w, "writes", &x.writes)?;
+    field(out, w, "used", x.count as u64, 0)?;
+    log(out, w, x)
 }
 
-fn thread(w: usize, t: Thread) {
-    let live = t.live;
-    let saved = t.checkpoint;
-    gprs(w, b"r", live);
-    field(w, b"cr0", t.cr0 as u64, 0);
-    crs(w, b"cr", live);
-    gprs(w, b"saved_r", saved);
-    crs(w, b"saved_cr", saved);
-    control(w, t.control);
-    transaction(w, t.transaction);
+fn thread<W: Write>(out: &mut W, w: usize, t: &Thread) -> io::Result<()> {
+    gprs(out, w, "r", &t.live)?;
+    field(out, w, "cr0", u64::from(t.cr0), 0)?;
+    crs(out, w, "cr", &t.live)?;
+    gprs(out, w, "saved_r", &t.checkpoint)?;
+    crs(out, w, "saved_cr", &t.checkpoint)?;
+    control(out, w, &t.control)?;
+    transaction(out, w, &t.transaction)
 }
 
-pub fn machine(m: Machine) {
+pub fn machine<W: Write>(out: &mut W, m: &Machine) -> io::Result<()> {
     for w in 0..4 {
-        thread(w, m.threads[w]);
+        thread(out, w, &m.threads[w])?;
     }
+    Ok(())
 }
 
-fn word(i: usize, v: u64) {
-    if v != 0 {
-        io::write_all(1, b" mem[");
-        io::print_decimal(1, i as u64);
-        io::write_all(1, b"]");
-        value(v);
-    }
-}
-
-pub fn memory(mem: &[u64]) {
+pub fn memory<W: Write>(out: &mut W, mem: &[u64]) -> io::Result<()> {
     for i in 0..mem.len() {
-        word(i, mem[i]);
+        let v = mem[i];
+        if v != 0 {
+            write!(out, " mem[{i}]={v:x}")?;
+        }
     }
+    Ok(())
 }
 
-pub fn count(n: usize) {
-    if n != 4 {
-        io::write_all(1, b" count");
-        value(n as u64);
+pub fn count<W: Write>(out: &mut W, n: usize) -> io::Result<()> {
+    if n == 4 {
+        return Ok(());
     }
+    write!(out, " count={n:x}")
 }

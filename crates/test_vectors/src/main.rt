@@ -6,10 +6,13 @@
 
 mod vectors;
 
-const ROOM: usize = 524288;
+use std::io;
+use std::io::{BufWriter, Read, Write};
 
-fn main() {
-    let mut text = [0u8; ROOM];
-    let n = io::read_full(0, &mut text);
-    vectors::lines(&text[..n]);
+fn main(rt: HostRuntime) -> io::Result<()> {
+    let mut text = Vec::new(rt.alloc());
+    rt.stdin().read_to_end(&mut text)?;
+    let mut out = BufWriter::new(rt.alloc(), io::writer(&rt))?;
+    vectors::lines(&mut out, text.as_slice())?;
+    out.flush()
 }

@@ -7,46 +7,43 @@
 //
 // For each line a line is written: the rule, a colon, the answers of its records in decimal, and then what is not as in the fresh
 // machine, as NAME=HEX in a fixed order (crate `test_show`). A wrong line so names its rule and shows all that the machine holds.
+use std::io;
+use std::io::Write;
 use tape::Read;
 use test_poke::World;
 
 // The doublewords that can be lent: a line more than a memory may have.
 pub const MEMORY: usize = 4112;
 
-// An answer's number.
-fn answer(n: u8) {
-    io::write_all(1, b" ");
-    io::print_decimal(1, n as u64);
-}
-
 // A record read and its event stepped, on the part of memory that is lent. No event is done where more is lent than there is.
-fn record(w: World, mem: &mut [u64], b: [u8; 16]) -> World {
+fn record<W: Write>(out: &mut W, w: World, mem: &mut [u64], b: [u8; 16]) -> io::Result<World> {
     let found = tape::reader::read(&b);
     let Read::Record { thread, event } = found else {
-        answer(tape::number(found));
-        return w;
+        write!(out, " {}", tape::number(found))?;
+        return Ok(w);
     };
     let lent = w.lent;
     if mem.len() < lent {
-        return w;
+        return Ok(w);
     }
-    let m = w.machine;
-    let done = step::step(m, &mut mem[..lent], thread, event);
-    answer(done.answer);
-    let machine = done.machine;
-    World { machine, lent }
+    let done = step::step(w.machine, &mut mem[..lent], thread, event);
+    write!(out, " {}", done.answer)?;
+    Ok(World {
+        machine: done.machine,
+        lent,
+    })
 }
 
-fn item(w: World, mem: &mut [u64], s: &[u8]) -> World {
+fn item<W: Write>(out: &mut W, w: World, mem: &mut [u64], s: &[u8]) -> io::Result<World> {
     let b = test_poke::text::bytes(s);
     if b[0] == tape::FIRST_BYTE {
-        return record(w, mem, b);
+        return record(out, w, mem, b);
     }
-    test_poke::poke(w, mem, b)
+    Ok(test_poke::poke(w, mem, b))
 }
 
 // What follows a rule: a colon, and each item behind a space.
-fn items(s: &[u8]) {
+fn items<W: Write>(out: &mut W, s: &[u8]) -> io::Result<()> {
     let mut mem = [0u64; MEMORY];
     let mut w = World {
         machine: machine::fresh(),
@@ -55,30 +52,29 @@ fn items(s: &[u8]) {
     let mut at = 2;
     while at + 32 <= s.len() {
         let end = at + 32;
-        let next = item(w, &mut mem, &s[at..end]);
-        w = next;
+        w = item(out, w, &mut mem, &s[at..end])?;
         at = end + 1;
     }
-    let m = w.machine;
-    test_show::machine(m);
-    test_show::memory(&mem);
-    test_show::count(m.count);
+    test_show::machine(out, &w.machine)?;
+    test_show::memory(out, &mem)?;
+    test_show::count(out, w.machine.count)
 }
 
-fn line(s: &[u8]) {
+fn line<W: Write>(out: &mut W, s: &[u8]) -> io::Result<()> {
     let colon = test_poke::text::find(s, 0, b':');
-    io::write_all(1, &s[..colon]);
-    io::write_all(1, b":");
-    items(&s[colon..]);
-    io::write_all(1, b"\n");
+    out.write_all(&s[..colon])?;
+    out.write_all(b":")?;
+    items(out, &s[colon..])?;
+    out.write_all(b"\n")
 }
 
 // Every line of a text.
-pub fn lines(s: &[u8]) {
+pub fn lines<W: Write>(out: &mut W, s: &[u8]) -> io::Result<()> {
     let mut at = 0;
     while at < s.len() {
         let end = test_poke::text::find(s, at, b'\n');
-        line(&s[at..end]);
+        line(out, &s[at..end])?;
         at = end + 1;
     }
+    Ok(())
 }

@@ -42,10 +42,8 @@ pub fn last(text: &[u8]) -> Told {
         count: 0,
         answer: 0,
     };
-    let mut i = 0;
-    while i < text.len() {
-        t = next(t, text[i]);
-        i += 1;
+    for byte in text {
+        t = next(t, *byte);
     }
     t
 }
