@@ -5,20 +5,14 @@ ghost use Rattle.verdict.specs.Raw.{show, compare};
 use verdict::raw::{RawProfile, RawRegisters, RawShown, RawVerdict};
 
 // What hardware shows for a TEXASR of the model, and the bits that are fixed.
-#[unsafe(no_mangle)]
-pub extern "C" fn naszeptan_on_hardware(p: RawProfile, texasr: u64) -> RawShown
+pub fn naszeptan_on_hardware(p: RawProfile, texasr: u64) -> RawShown
     ensures { result ≡ show p texasr }
 {
     verdict::raw::show(p, texasr)
 }
 
 // The registers read on hardware against the model's.
-#[unsafe(no_mangle)]
-pub extern "C" fn naszeptan_compare(
-    p: RawProfile,
-    model: RawRegisters,
-    hardware: RawRegisters,
-) -> RawVerdict
+pub fn naszeptan_compare(p: RawProfile, model: RawRegisters, hardware: RawRegisters) -> RawVerdict
     ensures { result ≡ compare p model hardware }
 {
     verdict::raw::compare(p, model, hardware)

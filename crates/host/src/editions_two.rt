@@ -10,16 +10,14 @@ use host_rules::RawRecord;
 use tape::{Found, Read};
 
 // One record as fields.
-#[unsafe(no_mangle)]
-pub extern "C" fn naszeptan_read_two(bytes: &[u8]) -> RawRecord
+pub fn naszeptan_read_two(bytes: &[u8]) -> RawRecord
     ensures { result ≡ read bytes.now }
 {
     host_parts::record_of(editions::read(Edition::Two, bytes))
 }
 
 // Fields as one record.
-#[unsafe(no_mangle)]
-pub extern "C" fn naszeptan_write_two(e: Fields, buf: &mut [u8]) -> u8
+pub fn naszeptan_write_two(e: Fields, buf: &mut [u8]) -> u8
     ensures value { result ≡ write_answer e buf.old }
     ensures buf_after { buf.new ≡ write e buf.old }
 {
@@ -31,16 +29,14 @@ pub extern "C" fn naszeptan_write_two(e: Fields, buf: &mut [u8]) -> u8
 }
 
 // A tape of edition two as one of edition three, and back.
-#[unsafe(no_mangle)]
-pub extern "C" fn naszeptan_two_to_three(tape: &[u8], buf: &mut [u8]) -> Found
+pub fn naszeptan_two_to_three(tape: &[u8], buf: &mut [u8]) -> Found
     ensures value { result ≡ convert_answer Two tape.now buf.old }
     ensures buf_after { buf.new ≡ convert Two tape.now buf.old }
 {
     converter::convert(Edition::Two, tape, buf)
 }
 
-#[unsafe(no_mangle)]
-pub extern "C" fn naszeptan_three_to_two(tape: &[u8], buf: &mut [u8]) -> Found
+pub fn naszeptan_three_to_two(tape: &[u8], buf: &mut [u8]) -> Found
     ensures value { result ≡ convert_answer Three tape.now buf.old }
     ensures buf_after { buf.new ≡ convert Three tape.now buf.old }
 {

@@ -14,23 +14,20 @@ use step_rules::Done;
 use tape::Read;
 
 // The version of the rules.
-#[unsafe(no_mangle)]
-pub extern "C" fn naszeptan_version() -> u32
+pub fn naszeptan_version() -> u32
     ensures { result ≡ version }
 {
     VERSION
 }
 
-#[unsafe(no_mangle)]
-pub extern "C" fn naszeptan_fresh() -> RawMachine
+pub fn naszeptan_fresh() -> RawMachine
     ensures { result ≡ raw_machine fresh }
 {
     crossing::raw_machine(machine::fresh())
 }
 
 // The tests 1 and 2 of any bits.
-#[unsafe(no_mangle)]
-pub extern "C" fn naszeptan_valid(m: RawMachine, len: usize) -> u8
+pub fn naszeptan_valid(m: RawMachine, len: usize) -> u8
     ensures { result ≡ number m len }
 {
     host_parts::number(m, len)
@@ -63,8 +60,7 @@ fn lone(m: Machine, mem: &mut [u64], e: Fields) -> Done
 }
 
 // One event. Fields that are no event are refused after 1 and 2.
-#[unsafe(no_mangle)]
-pub extern "C" fn naszeptan_step(m: RawMachine, mem: &mut [u64], e: Fields) -> RawDone
+pub fn naszeptan_step(m: RawMachine, mem: &mut [u64], e: Fields) -> RawDone
     ensures value { result ≡ (step m mem.old e).done }
     ensures mem_after { mem.new ≡ (step m mem.old e).memory }
 {
@@ -93,8 +89,7 @@ pub extern "C" fn naszeptan_step(m: RawMachine, mem: &mut [u64], e: Fields) -> R
 }
 
 // A tape: the whole of it read first, then record by record. The answers of the records have no place here.
-#[unsafe(no_mangle)]
-pub extern "C" fn naszeptan_run(m: RawMachine, mem: &mut [u64], tape: &[u8]) -> RawEnded
+pub fn naszeptan_run(m: RawMachine, mem: &mut [u64], tape: &[u8]) -> RawEnded
     ensures value { result ≡ (run m mem.old tape.now).ended }
     ensures mem_after { mem.new ≡ (run m mem.old tape.now).memory }
 {
@@ -118,16 +113,14 @@ pub extern "C" fn naszeptan_run(m: RawMachine, mem: &mut [u64], tape: &[u8]) -> 
 }
 
 // One record as fields.
-#[unsafe(no_mangle)]
-pub extern "C" fn naszeptan_read(bytes: &[u8]) -> RawRecord
+pub fn naszeptan_read(bytes: &[u8]) -> RawRecord
     ensures { result ≡ read bytes.now }
 {
     host_parts::record_of(tape::reader::read(bytes))
 }
 
 // Fields as one record.
-#[unsafe(no_mangle)]
-pub extern "C" fn naszeptan_write(e: Fields, buf: &mut [u8]) -> u8
+pub fn naszeptan_write(e: Fields, buf: &mut [u8]) -> u8
     ensures value { result ≡ write_answer e buf.old }
     ensures buf_after { buf.new ≡ write e buf.old }
 {

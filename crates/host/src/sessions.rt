@@ -10,8 +10,7 @@ use host_rules::{RawEnded, RawFed, RawSession};
 use session_rules::HELD;
 
 // A session on a machine; where it is refused its answer is the number.
-#[unsafe(no_mangle)]
-pub extern "C" fn naszeptan_open(m: RawMachine, len: usize) -> RawSession
+pub fn naszeptan_open(m: RawMachine, len: usize) -> RawSession
     ensures { result ≡ open_raw m len }
 {
     if crossing::right(m) {
@@ -27,13 +26,7 @@ pub extern "C" fn naszeptan_open(m: RawMachine, len: usize) -> RawSession
 }
 
 // A piece of the tape. The answers of the records that it finishes go to the buffer, as far as it has places.
-#[unsafe(no_mangle)]
-pub extern "C" fn naszeptan_feed(
-    s: RawSession,
-    mem: &mut [u64],
-    piece: &[u8],
-    answers: &mut [u8],
-) -> RawFed
+pub fn naszeptan_feed(s: RawSession, mem: &mut [u64], piece: &[u8], answers: &mut [u8]) -> RawFed
     ensures value { result ≡ (feed s mem.old piece.now).fed }
     ensures mem_after { mem.new ≡ (feed s mem.old piece.now).memory }
     ensures answers_after { answers.new ≡ sets answers.old 0 (feed s mem.old piece.now).answers }
@@ -56,8 +49,7 @@ pub extern "C" fn naszeptan_feed(
 }
 
 // The end of the tape.
-#[unsafe(no_mangle)]
-pub extern "C" fn naszeptan_close(s: RawSession, len: usize) -> RawEnded
+pub fn naszeptan_close(s: RawSession, len: usize) -> RawEnded
     ensures { result ≡ close s len }
 {
     let m = s.machine;

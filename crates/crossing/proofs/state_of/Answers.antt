@@ -1,0 +1,16 @@
+-- `crossing::state_of` meets its contract.
+use borrow.Author.Tests.{ne_eqb}
+use Rattle.crossing.specs.Crossing.{state_of}
+use Rattle.crossing.proofs.state_of.Goals as goal
+
+pub returns-in-0 : goal.returns-in-0
+unfolding state_of
+returns-in-0 c = simp c.in-0.is
+
+pub returns-in-1 : goal.returns-in-1
+unfolding state_of
+returns-in-1 c = simp c.in-1.is
+
+pub returns-in_default : goal.returns-in_default
+unfolding state_of
+returns-in_default c = simp (ne_eqb _ _ c.in_default.in_default-own.rest.0.1, ne_eqb _ _ c.in_default.in_default-own.rest.1)

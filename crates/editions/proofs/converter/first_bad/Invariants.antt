@@ -1,0 +1,11 @@
+use mathlib.Core.Path.{◌≡◌}
+use Prim.Native.Nat.{◌-◌, ◌≤◌}
+use Rattle.tape.specs.FirstBad.{first_bad}
+use Rattle.editions.specs.Editions.{number}
+use Rattle.editions.proofs.converter.first_bad.Given as goal
+
+abbrev pub invariant-loop-k : goal.invariant-loop-k
+invariant-loop-k l = (l.k ≤ l.n) × (first_bad (number l.d) l.tape 0 l.n ≡ first_bad (number l.d) l.tape l.k (l.n - l.k))
+
+abbrev pub decreases-loop-k : goal.decreases-loop-k
+decreases-loop-k l = l.n - l.k

@@ -1,0 +1,7 @@
+// What C hosts link against: the functions of `host` under their C names, each with the same contract (include/naszeptan.h).
+#![tactic(auto)]
+
+pub mod compare;
+pub mod editions_two;
+pub mod entries;
+pub mod sessions;

@@ -1,0 +1,14 @@
+-- `power_returns::mtmsrd` meets its contract.
+use Prim.Native.Nat.{ℕ}
+use Rattle.power_rules.specs.Returns.{returning, mtmsrd}
+use Rattle.rows.specs.Rows.{head_of, standing}
+use Rattle.thread.specs.declared.Thread.{Thread}
+use mathlib.Core.List.{List}
+use mathlib.Core.Path.{◌∙◌}
+use Rattle.power_returns.proofs.mtmsrd.Goals as goal
+
+pub returns : goal.returns
+unfolding mtmsrd head_of
+returns c =
+    let thread : List ℕ → List ℕ → Thread = λ ix vl. standing c.args.gpr.now c.args.cr.now c.args.kgpr.now c.args.kcr.now c.args.words.now ix vl in
+    λ ix vl. c.returned.ensures ix vl ∙ (λ j. returning (thread ix vl) c.args.a (c.next-after.ensures j))
