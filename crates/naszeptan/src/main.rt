@@ -47,11 +47,15 @@ fn without_number(text: &str) -> &str {
     }
 }
 
-// What failed, and why.
+// What failed, and why. Where there is no memory for the words alone, the number stays behind them.
 fn fail(rt: &HostRuntime, what: &str, error: io::Error) -> io::Result<()> {
-    let text = format!(in rt.alloc(); "{error}")?;
-    let words = without_number(text.as_str());
-    eprintln!(rt; "naszeptan: {what}: {words}")
+    match format!(in rt.alloc(); "{error}") {
+        Ok(text) => {
+            let words = without_number(text.as_str());
+            eprintln!(rt; "naszeptan: {what}: {words}")
+        }
+        Err(_) => eprintln!(rt; "naszeptan: {what}: {error}"),
+    }
 }
 
 // The text of the input, written, and then why the run stopped, so that standard error has at most one line.
