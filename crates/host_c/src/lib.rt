@@ -1,4 +1,4 @@
-// What C hosts link against: the functions of `host` under their C names, each with the same contract (include/naszeptan.h).
+// What C and Rust hosts link against: the functions of `host` under their C names, each with the same contract (include/naszeptan.h).
 #![tactic(auto)]
 
 pub mod compare;
