@@ -1,38 +1,41 @@
 -- `power_aborts::abort` meets its contract.
 use Prim.Native.Nat.{ℕ}
-use Rattle.base.specs.Answers as answer
 use Rattle.power_rules.specs.Aborts.{tabort}
-use Rattle.power_rules.specs.Common.{did, dooms}
-use Rattle.power_common.specs.Inner as heads
-use Rattle.rows.specs.Rows.{thread_with, standing}
+use Rattle.power_rules.specs.declared.Did.{Did}
+use Rattle.rows.specs.Rows.{standing}
 use Rattle.rows.specs.declared.Head.{Head}
+use Rattle.std.proofs.Common.{rules, arith}
+use Rattle.std.proofs.lemmas.Grind.{common_steps}
 use Rattle.thread.specs.declared.State.{State}
 use Rattle.thread.specs.declared.Thread.{Thread}
-use mathlib.Core.Bool.{true}
+use Rattle.transaction.specs.declared.Cause.{Cause}
 use mathlib.Core.List.{List}
 use mathlib.Core.Path.{◌≡◌, sym, ap, ◌∙◌}
 use Rattle.power_aborts.proofs.abort.Goals as goal
+use Rattle.power_aborts.proofs.abort.Goals.{Start}
+
+-- the thread at the start, whatever its log
+abbrev thread : (c : Start) → List ℕ → List ℕ → Thread
+thread c ix vl = standing c.args.gpr.now c.args.cr.now c.args.kgpr.now c.args.kcr.now c.args.words.now ix vl
+
+-- what is done by the state
+by_state : {d : Did} (s : State) (t : Thread) (cause : Cause) → t.control.msr.state ≡ s → d ≡ tabort s t cause → d ≡ tabort t.control.msr.state t cause
+by_state s t cause e p = p ∙ sym (λ j. tabort (e j) t cause)
 
 pub returns-in-N : goal.returns-in-N
 unfolding tabort
 returns-in-N c =
-    let thread : List ℕ → List ℕ → Thread = λ ix vl. standing c.args.gpr.now c.args.cr.now c.args.kgpr.now c.args.kcr.now c.args.words.now ix vl in
-    let by_state : (s : State) → c.read_head-h.result.control.msr.state ≡ s → (ix vl : List ℕ) → let t = thread ix vl in tabort t.control.msr.state t c.args.cause ≡ tabort s t c.args.cause = λ s p ix vl. λ j. tabort ((sym (ap (λ (h : Head). h.control.msr.state) c.read_head-h.ensures) ∙ p) j) (thread ix vl) c.args.cause in
-    let g = c.write_head.ensures ∙ c.shown.ensures ∙ ap heads.shown c.read_head-h.ensures in
-    λ ix vl. (λ j. did answer.done (thread_with (g j) c.args.gpr.now c.args.cr.now c.args.kgpr.now c.args.kcr.now ix vl)) ∙ sym (by_state State.N c.in-N.is ix vl)
+    let e = sym (ap (λ (h : Head). h.control.msr.state) c.read_head-h.ensures) ∙ c.in-N.is in
+    λ ix vl. by_state State.N (thread (goal.at.returns-in-N c).Start ix vl) c.args.cause e (search rules)
 
 pub returns-in-T : goal.returns-in-T
 unfolding tabort
 returns-in-T c =
-    let thread : List ℕ → List ℕ → Thread = λ ix vl. standing c.args.gpr.now c.args.cr.now c.args.kgpr.now c.args.kcr.now c.args.words.now ix vl in
-    let by_state : (s : State) → c.read_head-h.result.control.msr.state ≡ s → (ix vl : List ℕ) → let t = thread ix vl in tabort t.control.msr.state t c.args.cause ≡ tabort s t c.args.cause = λ s p ix vl. λ j. tabort ((sym (ap (λ (h : Head). h.control.msr.state) c.read_head-h.ensures) ∙ p) j) (thread ix vl) c.args.cause in
-    λ ix vl. c.fails.ensures ix vl ∙ sym (by_state State.T c.in-T.is ix vl)
+    let e = sym (ap (λ (h : Head). h.control.msr.state) c.read_head-h.ensures) ∙ c.in-T.is in
+    λ ix vl. by_state State.T (thread (goal.at.returns-in-T c).Start ix vl) c.args.cause e (search rules)
 
 pub returns-in-S : goal.returns-in-S
 unfolding tabort
 returns-in-S c =
-    let thread : List ℕ → List ℕ → Thread = λ ix vl. standing c.args.gpr.now c.args.cr.now c.args.kgpr.now c.args.kcr.now c.args.words.now ix vl in
-    let by_state : (s : State) → c.read_head-h.result.control.msr.state ≡ s → (ix vl : List ℕ) → let t = thread ix vl in tabort t.control.msr.state t c.args.cause ≡ tabort s t c.args.cause = λ s p ix vl. λ j. tabort ((sym (ap (λ (h : Head). h.control.msr.state) c.read_head-h.ensures) ∙ p) j) (thread ix vl) c.args.cause in
-    let g = c.told.ensures ∙ ap heads.told c.read_head-h.ensures in
-    λ ix vl. c.dooms.ensures c.args.gpr.now c.args.cr.now c.args.kgpr.now c.args.kcr.now ix vl ∙ (λ j. dooms (thread_with (g j) c.args.gpr.now c.args.cr.now c.args.kgpr.now c.args.kcr.now ix vl) c.args.cause true)
-    ∙ sym (by_state State.S c.in-S.is ix vl)
+    let e = sym (ap (λ (h : Head). h.control.msr.state) c.read_head-h.ensures) ∙ c.in-S.is in
+    λ ix vl. by_state State.S (thread (goal.at.returns-in-S c).Start ix vl) c.args.cause e (grind (arith, common_steps))

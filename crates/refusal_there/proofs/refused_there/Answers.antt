@@ -1,6 +1,7 @@
 -- `refusal_there::refused_there` meets its contract.
-use Rattle.step_rules.specs.Refusal.{refused_there}
-use mathlib.Core.Path.{sym, ◌∙◌}
+use Rattle.step_rules.specs.Refusal.{off, refused_there}
+use mathlib.Core.Bool.{false}
+use mathlib.Core.Path.{◌≡◌, sym, ◌∙◌}
 use Rattle.refusal_there.proofs.refused_there.Goals as goal
 
 pub returns-then-host_in_t : goal.returns-then-host_in_t
@@ -15,7 +16,8 @@ returns-then-without c =
 pub returns-then-barred : goal.returns-then-barred
 unfolding refused_there
 returns-then-barred c =
-    simp (← c.kind-n.ensures, sym c.forbidden-barred.ensures ∙ c.if-barred.true, sym c.off-without.ensures ∙ c.if-without.false, sym c.host_in_t.ensures ∙ c.if-host_in_t.false)
+    let on : off c.args.k c.args.e ≡ false = sym c.off-without.ensures ∙ cc in
+    simp (← c.kind-n.ensures, sym c.forbidden-barred.ensures ∙ c.if-barred.true, on, sym c.host_in_t.ensures ∙ c.if-host_in_t.false)
 
 pub returns-then-bad_thing : goal.returns-then-bad_thing
 unfolding refused_there
