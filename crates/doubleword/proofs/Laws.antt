@@ -1,5 +1,5 @@
 -- Laws of the bytes of a doubleword: a number is its bytes, and what merging, placing and taking a part leave at each byte.
-use mathlib.Core.Path.{◌≡◌, refl, sym, ap, ◌∙◌, subst}
+use mathlib.Core.Path.{◌≡◌, refl, sym, ap, ◌∙◌}
 use mathlib.Core.Bool.{Bool, true, false, cond, ◌&&◌, ◌||◌, true≢false}
 use Prim.Native.Nat.{ℕ, zero, suc, ◌+◌, ◌-◌, ◌*◌, ◌/◌, ◌%◌, ◌^◌, ◌≤◌, ◌<◌}
 use native.Mathlib.Nat.{mod-lt, mod-eq_of_lt, mod-one, lt_of_le_of_lt, lt_of_lt_of_le, one-mul, mul-pos, zero-div, add_comm, not-suc-le-zero}

@@ -1,5 +1,5 @@
 -- The reader, the writer and the converter of an edition that the caller names (rules T8, T11, T12).
-use Rattle.std.specs.Prelude.{ℕ, zero, suc, ◌/◌, ◌%◌, Bool, not, cond, List, [], ◌++◌, length, nat_lt, ◌==◌}
+use Rattle.std.specs.Prelude.{ℕ, zero, suc, ◌/◌, ◌%◌, not, cond, List, [], ◌++◌, length, nat_lt, ◌==◌}
 use Rattle.std.proofs.lemmas.List.Edits.{sets}
 use Rattle.base.specs.Answers as answer
 use Rattle.event.specs.Event.{kind, fields_of}

@@ -2,10 +2,10 @@
 use mathlib.Core.Path.{◌≡◌, refl, sym, ap, subst, ◌∙◌}
 use mathlib.Core.Bool.{Bool, true, false, not, cond}
 use mathlib.Core.List.{List, [], ◌∷◌, ◌++◌}
-use Prim.Native.Nat.{ℕ, zero, suc, ◌+◌, ◌-◌, ◌*◌, ◌/◌, ◌%◌, ◌≤◌, ◌<◌}
+use Prim.Native.Nat.{ℕ, zero, suc, ◌+◌, ◌*◌, ◌/◌, ◌%◌, ◌≤◌, ◌<◌}
 use native.Mathlib.Nat.{zero-add}
 use native.Mathlib.Omega.{arith}
-use lib.Dec.{eqb, leb, ltb}
+use lib.Dec.{eqb, ltb}
 use lib.ListN.{length, take, drop, get_or, length-drop}
 use lib.Seq.{sets, length-sets, take_at, drop_at, take_all, take-add, take-append-le, drop-append-le, get_or-take, get_or-drop, length-take-le}
 use borrow.Author.Tests.{eq-eqb, ne_eqb, eqb-true, eqb-false, ltb-true, ltb-false, le-ltb, lt-leb}
@@ -29,7 +29,6 @@ use Rattle.tape.specs.declared.Found.{Found}
 use Rattle.editions.proofs.Laws.{record_of, length_bytes, length_turned, length_all_turned}
 use Rattle.laws_round.specs.Round.{Bytes}
 use Rattle.machine.specs.Valid.{machine_number}
-use Rattle.machine.specs.declared.Machine.{Machine}
 use Rattle.machine.proofs.Validity.{valid_passes}
 use Rattle.run_rules.specs.Run as tape_run
 use Rattle.run_rules.specs.Run.{Result, refused, play, run}

@@ -14,7 +14,7 @@ use Rattle.editions.specs.declared.Edition.TheVariants.{Two, Three}
 use Rattle.laws_round.specs.Round.{FieldsFit, Bytes}
 use Rattle.machine.specs.Valid.{valid, machine_number}
 use Rattle.machine.specs.declared.Machine.{Machine}
-use Rattle.run_rules.specs.Run.{Result, refused, play, run}
+use Rattle.run_rules.specs.Run.{refused, play, run}
 
 -- ---- one record, in either edition
 

@@ -1,7 +1,6 @@
 -- What the comparison promises: of every value, and of a table with one row for each cause (rules B3 to B6).
 use Rattle.std.specs.Prelude.{ℕ, ◌+◌, ◌-◌, ◌*◌, ◌<◌, ◌^◌, ◌≡◌, Bool, true, false, cond, ◌&&◌, List, [], ◌∷◌, ◌==◌}
 use Rattle.std.specs.Int.Bits.{bit_and}
-use Rattle.base.specs.Below.{bit}
 use Rattle.base.specs.Limits.{most_levels}
 use Rattle.transaction.specs.declared.Cause.{Cause}
 use Rattle.transaction.specs.declared.Cause.TheVariants.{Disallowed, Nesting, Footprint, OwnStore, PlainConflict, Conflict, Translation, Abort}

@@ -1,7 +1,4 @@
 -- A session crosses as its machine does.
-use mathlib.Core.Path.{◌≡◌, refl, ap}
-use mathlib.Core.List.{List}
-use Prim.Native.Nat.{ℕ}
 use Rattle.host_rules.specs.Host.{number}
 use Rattle.host_rules.specs.Sessions.{open_raw, feed, close}
 use Rattle.laws_host.specs.Pieces.{SessionForth, SessionBack, NoSessionMachine}

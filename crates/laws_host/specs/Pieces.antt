@@ -3,7 +3,6 @@ use Rattle.std.specs.Prelude.{◌≡◌, true, false, List, ℕ, length}
 use Rattle.base.specs.Limits.{most_threads}
 use Rattle.machine.specs.Valid.{sized}
 use Rattle.crossing.specs.Crossing.{right, machine_of}
-use Rattle.crossing.specs.declared.RawMachine.{RawMachine}
 use Rattle.session_rules.specs.declared.Session.{Session}
 use Rattle.host_rules.specs.Sessions.{session_of, raw_session, no_session, open_raw, refused_feeding, feed, close}
 use Rattle.host_rules.specs.declared.RawSession.{RawSession}

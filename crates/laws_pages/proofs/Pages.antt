@@ -1,6 +1,6 @@
 -- Whom a tlbie makes fail: the others by the scan, its own thread by its effect.
 use mathlib.Core.Path.{◌≡◌, refl, sym, ap, ◌∙◌, subst}
-use mathlib.Core.Bool.{Bool, true, false, cond, ◌||◌, or_comm, true≢false, false≢true}
+use mathlib.Core.Bool.{Bool, true, false, cond, or_comm, true≢false, false≢true}
 use mathlib.Core.List.{List}
 use Prim.Native.Nat.{ℕ, ◌≤◌, ◌<◌}
 use native.Mathlib.Decide.{ℕ_discrete}
@@ -19,17 +19,17 @@ use Rattle.thread.specs.declared.State.{State}
 use Rattle.thread.specs.declared.State.TheVariants.{N, T, S}
 use Rattle.thread.specs.declared.Thread.{Thread}
 use Rattle.event.specs.declared.Event.TheVariants.{Tlbie}
-use Rattle.power_rules.specs.Common.{advance, passes, dooms}
+use Rattle.power_rules.specs.Common.{passes, dooms}
 use Rattle.power_rules.specs.Access.{meets_own, tlbie}
 use Rattle.step_rules.specs.Effects.{effect}
 use Rattle.machine.specs.Machine.{thread, no_thread}
 use Rattle.machine.specs.Valid.{thread_valid, valid}
 use Rattle.machine.specs.declared.Machine.{Machine}
 use Rattle.machine.proofs.Validity.{valid_thread, valid_count}
-use Rattle.step_rules.specs.Refusal.{in_t, refusal}
+use Rattle.step_rules.specs.Refusal.{in_t}
 use Rattle.step_rules.proofs.Refusals.{passed_thread, refusal_valid}
 use Rattle.step_rules.specs.Conflict.{hits, struck, strike, others}
-use Rattle.step_rules.specs.Step.{perform, step}
+use Rattle.step_rules.specs.Step.{perform}
 use Rattle.step_rules.proofs.Steps.{step_passed}
 use Rattle.laws_keeping.proofs.Fails.{live_unfailed_t, live_unfailed_s, held_nothing_s}
 use Rattle.laws_keeping.proofs.Parts.{valid_right}

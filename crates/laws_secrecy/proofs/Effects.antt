@@ -25,7 +25,7 @@ use Rattle.thread.specs.Texasr.{tl}
 use Rattle.thread.specs.Thread.{with_transaction, failed, recording, handling}
 use Rattle.thread.specs.declared.Registers.{Registers}
 use Rattle.thread.specs.declared.State.{State}
-use Rattle.thread.specs.declared.State.TheVariants.{N, T, S}
+use Rattle.thread.specs.declared.State.TheVariants.{T}
 use Rattle.thread.specs.declared.Control.{Control}
 use Rattle.thread.specs.declared.Thread.{Thread}
 use Rattle.thread.specs.declared.Effect.{Effect}

@@ -20,7 +20,7 @@ use Rattle.run_rules.specs.declared.Ended.{Ended}
 use Rattle.run_rules.proofs.Records.{one_index}
 use Rattle.run_rules.proofs.Runs.{run_unready, run_plays}
 use Rattle.run_rules.proofs.Pieces.{reads_left}
-use Rattle.session_rules.specs.Session.{session, number, opened, Feeding, wrapped, rest, behind, did, feed_on, feed, ended, last_answer, close}
+use Rattle.session_rules.specs.Session.{number, opened, Feeding, wrapped, rest, behind, did, feed_on, feed, ended, last_answer, close}
 use Rattle.session_rules.specs.declared.Session.{Session}
 use Rattle.session_rules.proofs.Feeding.{ran, how}
 use Rattle.laws_session.specs.Pieces.{ragged, played, run_as_read, SessionIsRun, GoodTapeSame, cut_short, UnfinishedUnread}

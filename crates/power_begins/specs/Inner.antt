@@ -1,6 +1,5 @@
 -- What tbegin. does to the head of a thread.
 use Rattle.std.specs.Prelude.{Bool}
-use Rattle.thread.specs.declared.State.TheVariants.{N}
 use Rattle.rows.specs.Rows.{with_control}
 use Rattle.rows.specs.declared.Head.{Head}
 use Rattle.power_common.specs.Inner.{advanced, told}

@@ -1,5 +1,5 @@
 -- Laws of effects: what is touched is one of the 256 lines, or one of the 8 pages; an effect that touches and writes nothing; what a rare event leaves past a log's count.
-use mathlib.Core.Path.{◌≡◌, refl, sym, ap, ◌∙◌}
+use mathlib.Core.Path.{◌≡◌, refl, ap, ◌∙◌}
 use mathlib.Core.Bool.{Bool, true, false, ◌&&◌, ◌||◌, or-true}
 use mathlib.Core.List.{List}
 use Prim.Native.Nat.{ℕ, ◌≤◌, ◌<◌, ◌*◌}

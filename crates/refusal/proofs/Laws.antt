@@ -10,7 +10,6 @@ use Rattle.thread.specs.declared.State.TheVariants.{N, T, S}
 use Rattle.thread.specs.declared.Control.{Control}
 use Rattle.event.specs.Event.{kind, operands_right, tm_instruction, privileged}
 use Rattle.event.specs.declared.Event.TheVariants.{Tbegin, Tend, Ld, Std, Addi}
-use Rattle.machine.specs.Machine.{thread}
 use Rattle.step_rules.specs.Refusal.{bad_thing, turned_down, refused_there}
 use Rattle.refusal.specs.Inner.{refused_at}
 

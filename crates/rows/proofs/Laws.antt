@@ -1,10 +1,10 @@
 -- Laws of the rows: a row of words that was written is read back; the log of rows; the threads of rows after a change of one.
 use mathlib.Core.Path.{◌≡◌, refl, sym, ap, ◌∙◌, subst}
-use mathlib.Core.Bool.{Bool, true, false, cond}
+use mathlib.Core.Bool.{Bool, true, false}
 use mathlib.Core.List.{List, [], ◌∷◌}
 use Prim.Native.Nat.{ℕ, zero, suc, ◌+◌, ◌/◌, ◌%◌, ◌^◌, ◌≤◌, ◌<◌}
 use native.Mathlib.Omega.{arith}
-use lib.Dec.{eqb, leb}
+use lib.Dec.{leb}
 use lib.ListN.{length, get_or, set, replicate, drop, length-set}
 use native.Mathlib.Nat.{mod-eq_of_lt}
 use native.Mathlib.Decide.{ℕ_discrete}
@@ -21,7 +21,6 @@ use Rattle.base.proofs.Below.{bit_test}
 use Rattle.thread.specs.declared.State.{State}
 use Rattle.thread.specs.declared.State.TheVariants.{N, T, S}
 use Rattle.rows.specs.Rows.{state_at, state_number, head_of, with_control, with_count, with_reads, with_writes, entry_in, entry_at, places, log_of, Row, Rows, row, thread_of, threads_of}
-use Rattle.thread.specs.declared.Thread.{Thread}
 use Rattle.machine.specs.Machine.{thread}
 use Rattle.rows.specs.declared.Head.{Head}
 

@@ -1,6 +1,6 @@
 -- A thread as rows of numbers: general registers, CR fields 1 to 7, the same of the checkpoint, a row of words, the log's indices, and its values
 -- with the marks behind them.
-use Rattle.std.specs.Prelude.{ℕ, zero, suc, ◌+◌, ◌%◌, ◌^◌, Bool, true, false, cond, List, [], ◌∷◌, nat_lt, slice_index, slice_index_or, ◌==◌}
+use Rattle.std.specs.Prelude.{ℕ, zero, suc, ◌+◌, ◌%◌, ◌^◌, Bool, cond, List, [], ◌∷◌, nat_lt, slice_index, slice_index_or, ◌==◌}
 use Rattle.base.specs.Limits.{most_places}
 use Rattle.lines.specs.declared.LineSet.{LineSet}
 use Rattle.transaction.specs.Transaction.{no_entry}

@@ -61,7 +61,7 @@ pub fn logged(
     requires words_bound { (head_of words.old).count ≤ most_places }
     requires index_bound { line index < lines }
     requires at_value { at ≡ lookup (held (head_of words.old) ix.old vl.old) index }
-    requires at_value_2 { full (held (head_of words.old) ix.old vl.old) at ≡ false }
+    requires not_full { full (held (head_of words.old) ix.old vl.old) at ≡ false }
     ensures { (gpr cr kgpr kcr : List ℕ) → standing gpr cr kgpr kcr words.new ix.new vl.new ≡ with_transaction (standing gpr cr kgpr kcr words.old ix.old vl.old) (store_at (held (head_of words.old) ix.old vl.old) at index bytes value) }
 {
     rows::indices(*ix);

@@ -25,7 +25,7 @@ fn laid_at(
     t: Thread,
 )
     requires w_lt_most_threads { w < most_threads }
-    requires transaction_value { unused_zero t.transaction ≡ true }
+    requires t_unused_zero { unused_zero t.transaction ≡ true }
     ensures { threads_of (rows gpr.new cr.new kgpr.new kcr.new words.new ix.new vl.new) ≡ set (threads_of (rows gpr.old cr.old kgpr.old kcr.old words.old ix.old vl.old)) w t }
 {
     rows::four_gprs(*gpr);
@@ -61,8 +61,8 @@ fn two_laid_at(
     u: Thread,
 )
     requires w_bound { w + 1 < most_threads }
-    requires transaction_value { unused_zero t.transaction ≡ true }
-    requires transaction_value_2 { unused_zero u.transaction ≡ true }
+    requires t_unused_zero { unused_zero t.transaction ≡ true }
+    requires u_unused_zero { unused_zero u.transaction ≡ true }
     ensures { threads_of (rows gpr.new cr.new kgpr.new kcr.new words.new ix.new vl.new) ≡ set (set (threads_of (rows gpr.old cr.old kgpr.old kcr.old words.old ix.old vl.old)) w t) (w + 1) u }
 {
     laid_at(

@@ -1,5 +1,5 @@
 // A piece of a tape done: its whole records, behind the bytes that a session holds (rules Q6 and Q7).
-ghost use Rattle.std.specs.Prelude.{◌≡◌, ◌+◌, ◌/◌, ◌≤◌, true, [], length, if◌then◌else◌, nat_eq};
+ghost use Rattle.std.specs.Prelude.{◌≡◌, ◌+◌, ◌/◌, ◌≤◌, true, [], length, if◌then◌else◌, ◌==◌};
 ghost use Rattle.std.proofs.lemmas.List.Edits.{sets};
 ghost use Rattle.machine.specs.Valid.{valid};
 ghost use Rattle.tape.specs.Tape.{record_size};
@@ -16,7 +16,7 @@ use tape::RECORD_SIZE;
 // The session behind a run: it holds the bytes that are left, or it has stopped and holds nothing.
 fn behind(count: usize, e: Ended, left: &[u8]) -> Session
     requires { length left.now ≤ most_held }
-    ensures { result ≡ session e.answer e.machine (wrapped (count + e.count)) (if nat_eq e.answer 0 then left.now else []) }
+    ensures { result ≡ session e.answer e.machine (wrapped (count + e.count)) (if e.answer == 0 then left.now else []) }
 {
     let machine = e.machine;
     let done = std::num::wrapping_add_usize(count, e.count);
@@ -72,7 +72,7 @@ fn did_next(count: usize, m: Machine, mem: &mut [u64], bytes: &[u8], answers: &m
 // A piece that at most fills up the record of the held bytes. That these are as many as the session says is told too.
 fn fill(s: Session, mem: &mut [u64], piece: &[u8], answers: &mut [u8]) -> Fed
     requires mem_value { valid s.machine (length mem.old) ≡ true }
-    requires held_le_most_held { (s.held ≤ most_held) × (s.held + length piece.now ≤ record_size) }
+    requires held_bounds { (s.held ≤ most_held) × (s.held + length piece.now ≤ record_size) }
     ensures value { result ≡ (feed_on s mem.old piece.now).fed }
     ensures mem_after { mem.new ≡ (feed_on s mem.old piece.now).memory }
     ensures answers_after { answers.new ≡ sets answers.old 0 (feed_on s mem.old piece.now).answers }
@@ -89,7 +89,7 @@ fn fill(s: Session, mem: &mut [u64], piece: &[u8], answers: &mut [u8]) -> Fed
 // A piece behind held bytes: their record is filled up and done, and then what is left of the piece.
 pub fn feed_held(s: Session, mem: &mut [u64], piece: &[u8], answers: &mut [u8]) -> Fed
     requires mem_value { valid s.machine (length mem.old) ≡ true }
-    requires le_held { (1 ≤ s.held) × (s.held ≤ most_held) }
+    requires held_bounds { (1 ≤ s.held) × (s.held ≤ most_held) }
     ensures value { result ≡ (feed_on s mem.old piece.now).fed }
     ensures mem_after { mem.new ≡ (feed_on s mem.old piece.now).memory }
     ensures answers_after { answers.new ≡ sets answers.old 0 (feed_on s mem.old piece.now).answers }

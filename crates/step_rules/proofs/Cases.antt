@@ -1,6 +1,6 @@
 -- The effects by cases. The kinds whose effect only sets general registers and goes on are one case, loads of every width are one, and so are
 -- stores: a law that goes by these cases need not name them, nor a new kind of that sort.
-use mathlib.Core.Path.{◌≡◌, refl}
+use mathlib.Core.Path.{◌≡◌}
 use mathlib.Core.Bool.{Bool, true}
 use mathlib.Core.List.{List}
 use Prim.Native.Nat.{ℕ, ◌-◌, ◌%◌, ◌<◌}

@@ -146,7 +146,7 @@ pub fn read(s: &[u8]) -> Read
     of_kind(fields_at(s), fixed_zero(s))
 }
 
-// The same for a run, which alone calls it, and has judged all records before (`whole`). The compiler then puts the frequent kinds into the
+// The same for a run, which alone calls it, and has judged all records before (`tape_whole`). The compiler then puts the frequent kinds into the
 // run's loop (docs/PERFORMANCE.md).
 pub fn read_judged(s: &[u8]) -> Read
     requires { number (read s.now) ≡ 0 }

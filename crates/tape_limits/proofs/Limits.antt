@@ -2,7 +2,7 @@
 use mathlib.Core.Path.{◌≡◌, refl, sym, ap, ◌∙◌}
 use mathlib.Core.Bool.{Bool, true, false, not, cond, ◌&&◌, ◌||◌, false≢true}
 use mathlib.Core.List.{List, [], ◌∷◌, map}
-use Prim.Native.Nat.{ℕ, zero, suc, ◌+◌, ◌-◌, ◌*◌, ◌/◌, ◌%◌, ◌≤◌, ◌<◌}
+use Prim.Native.Nat.{ℕ, zero, suc, ◌-◌, ◌≤◌, ◌<◌}
 use native.Mathlib.Omega.{arith}
 use lib.Dec.{eqb, leb}
 use lib.ListN.{get_or, length}
@@ -15,7 +15,7 @@ use Rattle.tape.specs.Tape.{record_size, first_byte, byte, two, four, fields_at,
 use Rattle.tape.specs.FirstBad.{read_number}
 use Rattle.tape_limits.specs.Inner.{most, limits, table, ones, masks, within}
 use Rattle.tape.specs.declared.Read.{Read}
-use Rattle.tape.specs.declared.Read.TheVariants.{Record, Refused}
+use Rattle.tape.specs.declared.Read.TheVariants.{Refused}
 use Rattle.tape.proofs.Laws.{of_a_kind}
 
 -- the table has the limits of each kind

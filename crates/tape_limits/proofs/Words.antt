@@ -2,7 +2,7 @@
 use mathlib.Core.Path.{◌≡◌, refl, sym, ap, ◌∙◌}
 use mathlib.Core.Bool.{Bool, true, false, not, ◌&&◌, ◌||◌, false≢true, and-true}
 use mathlib.Core.List.{List}
-use Prim.Native.Nat.{ℕ, ◌+◌, ◌*◌, ◌^◌, ◌≤◌, ◌<◌}
+use Prim.Native.Nat.{ℕ, ◌+◌, ◌*◌, ◌≤◌, ◌<◌}
 use native.Mathlib.Omega.{arith}
 use lib.Bits.{bit_or, or_block, or_lt}
 use lib.Dec.{eqb, leb, ltb}
@@ -10,7 +10,7 @@ use lib.ListN.{get_or}
 use borrow.Author.Tests.{eq-eqb, eqb-true, le-leb, ltb-true}
 use Rattle.base.specs.Below.{all_below}
 use Rattle.base.proofs.Below.{all_at, and_left, and_right}
-use Rattle.tape.specs.Tape.{record_size, byte, four}
+use Rattle.tape.specs.Tape.{byte, four}
 use Rattle.tape_limits.specs.Inner.{word, covered, ones, masks, within}
 use Rattle.tape_limits.proofs.Limits.{both, agree}
 

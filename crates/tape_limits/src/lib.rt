@@ -24,7 +24,7 @@ fn word(s: &[u8], at: usize) -> u32
 // Four bytes have no bit that their limits have not.
 fn covered(s: &[u8], limits: &[u8], at: usize) -> bool
     requires at_in_bounds { at + 4 ≤ length s.now }
-    requires at_in_bounds_2 { at + 4 ≤ length limits.now }
+    requires limits_in_bounds { at + 4 ≤ length limits.now }
     ensures { result ≡ covered (word s.now at) (word limits.now at) }
 {
     let limit = word(limits, at);

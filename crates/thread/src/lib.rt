@@ -111,7 +111,7 @@ pub fn tl(x: u64) -> u64
 // A failure's TEXASR: the cause in the upper half, FS = 1.
 pub fn packed(cause: u64, suspended: u64, pr: u64, exact: u64, r: u64, level: u64) -> u64
     requires cause_bound { cause < 2 ^ 32 }
-    requires suspended_bound { (suspended < 2) × (pr < 2) × (exact < 2) × (r < 2) × (level < 2 ^ 12) }
+    requires flags_bound { (suspended < 2) × (pr < 2) × (exact < 2) × (r < 2) × (level < 2 ^ 12) }
     ensures { result ≡ packed cause suspended pr exact r level }
 {
     cause * UPPER + suspended * SUSPENDED + pr * PROBLEM + SUMMARY + exact * EXACT + r * ROT + level

@@ -1,4 +1,4 @@
-// The comparison on plain numbers, which any bits may be: what crate `host` exports.
+// The comparison on plain numbers, which any bits may be: what crate `host` gives hosts.
 ghost use Rattle.std.specs.Prelude.{◌≡◌};
 ghost use Rattle.verdict.specs.Raw.{right, seventh_of, profile_of, registers_of, taken, show, number, told_as, compare};
 

@@ -1,5 +1,4 @@
 -- `conflict::strike` meets its contract.
-use Prim.Native.Nat.{◌-◌}
 use Rattle.conflict.proofs.Laws.{strike_none, strike_step, strike_above}
 use Rattle.step_rules.specs.Conflict as conflict
 use Rattle.machine.specs.Machine as machine

@@ -7,7 +7,7 @@ use Prim.Native.Nat.{ℕ, ◌+◌, ◌-◌, ◌/◌, ◌≤◌, ◌<◌}
 use native.Mathlib.Omega.{arith}
 use lib.ListN.{length}
 use Rattle.base.specs.Below.{any_below}
-use Rattle.base.specs.Limits.{lines, words}
+use Rattle.base.specs.Limits.{lines}
 use Rattle.base.proofs.Below.{any_none, any_step, eqb_comm}
 use Rattle.lines.specs.Lines.{empty, with}
 use Rattle.lines.specs.declared.LineSet.{LineSet}

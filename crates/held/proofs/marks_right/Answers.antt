@@ -3,7 +3,7 @@ use borrow.Author.Rules.{rules}
 use mathlib.Core.Path.{refl}
 use native.Mathlib.Omega.{arith}
 use Rattle.base.proofs.Below.{all_fails, all_passes, all_passed}
-use Rattle.machine.specs.Valid.{marked_right, marks_right}
+use Rattle.machine.specs.Valid.{marks_right}
 use Rattle.std.proofs.Common.{sym, ◌∙◌}
 use Rattle.held.proofs.marks_right.Goals as goal
 

@@ -3,7 +3,7 @@ use borrow.Author.Rules.{rules}
 use borrow.Author.Tests.{le-leb, lt-leb}
 use native.Mathlib.Omega.{arith}
 use Rattle.base.proofs.Below.{all_fails, all_passes, all_passed}
-use Rattle.machine.specs.Valid.{unused_zero, place_right}
+use Rattle.machine.specs.Valid.{unused_zero}
 use Rattle.std.proofs.Common.{sym, ◌∙◌}
 use Rattle.held.proofs.unused_zero.Goals as goal
 

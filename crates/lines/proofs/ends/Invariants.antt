@@ -1,5 +1,5 @@
 use mathlib.Core.Path.{◌≡◌}
-use Prim.Native.Nat.{◌*◌, ◌-◌, ◌≤◌}
+use Prim.Native.Nat.{◌*◌, ◌≤◌}
 use Rattle.base.specs.Limits.{words}
 use Rattle.base.specs.Below.{all_below}
 use Rattle.lines.specs.Inner.{ends}

@@ -1,6 +1,6 @@
 -- `lines::footprint` meets its contract: after k words, n is the number of the first 64 k lines that are in either set.
 use mathlib.Core.Path.{◌≡◌, refl, sym, ap, ◌∙◌}
-use Prim.Native.Nat.{ℕ, ◌+◌, ◌*◌, ◌-◌}
+use Prim.Native.Nat.{ℕ, ◌+◌, ◌*◌}
 use native.Mathlib.Omega.{arith}
 use Rattle.base.specs.Limits.{words}
 use Rattle.base.specs.Below.{count_below}

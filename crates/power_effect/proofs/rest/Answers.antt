@@ -2,7 +2,6 @@
 use lib.ListN.{length}
 use mathlib.Core.Path.{◌≡◌, sym, ap, ◌∙◌, subst}
 use Rattle.power_rules.specs.Access.{store}
-use Rattle.power_rules.specs.Common.{gpr}
 use Rattle.rows.specs.Landed.{Landed, landed}
 use Rattle.rows.specs.Rows.{head_of, standing}
 use Rattle.thread.specs.declared.Effect.{Effect}

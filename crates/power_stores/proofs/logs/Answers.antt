@@ -51,9 +51,9 @@ logged-requires-clause-at_value c =
     let roomy : (b : Bool) → c.full.result ≡ b → full (thread).transaction c.lookup-at.result ≡ b = λ b p. sym (c.full.ensures (head_of c.args.words.now) c.args.ix.now c.args.vl.now refl) ∙ p in
     found
 
-pub logged-requires-clause-at_value_2 : goal.logged-requires-clause-at_value_2
+pub logged-requires-clause-not_full : goal.logged-requires-clause-not_full
 unfolding head_of
-logged-requires-clause-at_value_2 c =
+logged-requires-clause-not_full c =
     let thread : Thread = standing c.args.gpr.now c.args.cr.now c.args.kgpr.now c.args.kcr.now c.args.words.now c.args.ix.now c.args.vl.now in
     let found : c.lookup-at.result ≡ lookup (thread).transaction c.args.index = c.lookup-at.ensures c.args.vl.now in
     let roomy : (b : Bool) → c.full.result ≡ b → full (thread).transaction c.lookup-at.result ≡ b = λ b p. sym (c.full.ensures (head_of c.args.words.now) c.args.ix.now c.args.vl.now refl) ∙ p in

@@ -1,5 +1,4 @@
 -- `rows_lift::gathered` meets its contract.
-use Prim.Native.Nat.{◌-◌}
 use lib.ListN.{set}
 use mathlib.Core.List.{List}
 use mathlib.Core.Path.{sym, ap, ◌∙◌}

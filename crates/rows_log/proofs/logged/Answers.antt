@@ -120,56 +120,56 @@ pub offset_bounds-ix-n : goal.offset_bounds-ix-n
 unfolding head_of full
 offset_bounds-ix-n c =
     let count_is : get_or c.join_writes.new.words 9 0 ≡ (head_of c.args.words.now).count = ap (λ h. h.count) c.join_writes.ensures in
-    let room : (head_of c.args.words.now).count < most_places = leb-false most_places (head_of c.args.words.now).count (rw c.in-Absent.is at c.requires.at_value_2) in
+    let room : (head_of c.args.words.now).count < most_places = leb-false most_places (head_of c.args.words.now).count (rw c.in-Absent.is at c.requires.not_full) in
     omega (arith, room, count_is)
 
 pub bounds-ix-n : goal.bounds-ix-n
 unfolding head_of full
 bounds-ix-n c =
     let count_is : get_or c.join_writes.new.words 9 0 ≡ (head_of c.args.words.now).count = ap (λ h. h.count) c.join_writes.ensures in
-    let room : (head_of c.args.words.now).count < most_places = leb-false most_places (head_of c.args.words.now).count (rw c.in-Absent.is at c.requires.at_value_2) in
+    let room : (head_of c.args.words.now).count < most_places = leb-false most_places (head_of c.args.words.now).count (rw c.in-Absent.is at c.requires.not_full) in
     omega (arith, room, count_is)
 
 pub offset_bounds-vl-n-in-Absent : goal.offset_bounds-vl-n-in-Absent
 unfolding head_of full
 offset_bounds-vl-n-in-Absent c =
     let count_is : get_or c.join_writes.new.words 9 0 ≡ (head_of c.args.words.now).count = ap (λ h. h.count) c.join_writes.ensures in
-    let room : (head_of c.args.words.now).count < most_places = leb-false most_places (head_of c.args.words.now).count (rw c.in-Absent.is at c.requires.at_value_2) in
+    let room : (head_of c.args.words.now).count < most_places = leb-false most_places (head_of c.args.words.now).count (rw c.in-Absent.is at c.requires.not_full) in
     omega (arith, room, count_is)
 
 pub bounds-vl-n-in-Absent : goal.bounds-vl-n-in-Absent
 unfolding head_of full
 bounds-vl-n-in-Absent c =
     let count_is : get_or c.join_writes.new.words 9 0 ≡ (head_of c.args.words.now).count = ap (λ h. h.count) c.join_writes.ensures in
-    let room : (head_of c.args.words.now).count < most_places = leb-false most_places (head_of c.args.words.now).count (rw c.in-Absent.is at c.requires.at_value_2) in
+    let room : (head_of c.args.words.now).count < most_places = leb-false most_places (head_of c.args.words.now).count (rw c.in-Absent.is at c.requires.not_full) in
     omega (arith, room, count_is)
 
 pub overflow_add-vl-in-Absent : goal.overflow_add-vl-in-Absent
 unfolding head_of full
 overflow_add-vl-in-Absent c =
     let count_is : get_or c.join_writes.new.words 9 0 ≡ (head_of c.args.words.now).count = ap (λ h. h.count) c.join_writes.ensures in
-    let room : (head_of c.args.words.now).count < most_places = leb-false most_places (head_of c.args.words.now).count (rw c.in-Absent.is at c.requires.at_value_2) in
+    let room : (head_of c.args.words.now).count < most_places = leb-false most_places (head_of c.args.words.now).count (rw c.in-Absent.is at c.requires.not_full) in
     omega (arith, room, count_is)
 
 pub offset_bounds-vl-n-in-Absent-2 : goal.offset_bounds-vl-n-in-Absent-2
 unfolding head_of full
 offset_bounds-vl-n-in-Absent-2 c =
     let count_is : get_or c.join_writes.new.words 9 0 ≡ (head_of c.args.words.now).count = ap (λ h. h.count) c.join_writes.ensures in
-    let room : (head_of c.args.words.now).count < most_places = leb-false most_places (head_of c.args.words.now).count (rw c.in-Absent.is at c.requires.at_value_2) in
+    let room : (head_of c.args.words.now).count < most_places = leb-false most_places (head_of c.args.words.now).count (rw c.in-Absent.is at c.requires.not_full) in
     omega (arith, room, count_is)
 
 pub bounds-vl-n-in-Absent-2 : goal.bounds-vl-n-in-Absent-2
 unfolding head_of full
 bounds-vl-n-in-Absent-2 c =
     let count_is : get_or c.join_writes.new.words 9 0 ≡ (head_of c.args.words.now).count = ap (λ h. h.count) c.join_writes.ensures in
-    let room : (head_of c.args.words.now).count < most_places = leb-false most_places (head_of c.args.words.now).count (rw c.in-Absent.is at c.requires.at_value_2) in
+    let room : (head_of c.args.words.now).count < most_places = leb-false most_places (head_of c.args.words.now).count (rw c.in-Absent.is at c.requires.not_full) in
     omega (arith, room, count_is)
 
 pub overflow_add-n : goal.overflow_add-n
 unfolding head_of full
 overflow_add-n c =
     let count_is : get_or c.join_writes.new.words 9 0 ≡ (head_of c.args.words.now).count = ap (λ h. h.count) c.join_writes.ensures in
-    let room : (head_of c.args.words.now).count < most_places = leb-false most_places (head_of c.args.words.now).count (rw c.in-Absent.is at c.requires.at_value_2) in
+    let room : (head_of c.args.words.now).count < most_places = leb-false most_places (head_of c.args.words.now).count (rw c.in-Absent.is at c.requires.not_full) in
     omega (arith, room, count_is)
 
 pub returns-in-At : goal.returns-in-At
@@ -199,7 +199,7 @@ pub returns-in-Absent : goal.returns-in-Absent
 unfolding store_at stored full head_of
 returns-in-Absent c =
     let count_is : get_or c.join_writes.new.words 9 0 ≡ (head_of c.args.words.now).count = ap (λ h. h.count) c.join_writes.ensures in
-    let room : (head_of c.args.words.now).count < most_places = leb-false most_places (head_of c.args.words.now).count (rw c.in-Absent.is at c.requires.at_value_2) in
+    let room : (head_of c.args.words.now).count < most_places = leb-false most_places (head_of c.args.words.now).count (rw c.in-Absent.is at c.requires.not_full) in
     let h = head_of c.args.words.now in
     let n = h.count in
     let k = count_is in

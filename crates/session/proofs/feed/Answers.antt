@@ -1,5 +1,5 @@
 -- `session::feed` meets its contract.
-use Rattle.std.proofs.Common.{◌≡◌, ℕ, Bool, true, false, cond, List, [], ◌++◌, length, take, sym, ap, ◌∙◌, arith, eq-eqb, ne_eqb}
+use Rattle.std.proofs.Common.{◌≡◌, ℕ, Bool, true, cond, List, [], ◌++◌, length, take, sym, ap, ◌∙◌, arith, eq-eqb, ne_eqb}
 use lib.Seq.{sets}
 use Rattle.machine.specs.Valid.{valid, first_of}
 use Rattle.machine.proofs.Validity.{passes_valid}
@@ -82,8 +82,8 @@ feed_held-requires-clause-mem_value c =
     let r = ready in
     r.0
 
-pub feed_held-requires-clause-le_held : goal.feed_held-requires-clause-le_held
-feed_held-requires-clause-le_held c =
+pub feed_held-requires-clause-held_bounds : goal.feed_held-requires-clause-held_bounds
+feed_held-requires-clause-held_bounds c =
     let why : ℕ = first_of (number c.args.s (length c.args.mem.now)) c.args.s.answer in
     let is_why : c.stopped-n.result ≡ why = c.stopped-n.ensures in
     let ready : (valid c.args.s.machine (length c.args.mem.now) ≡ true) × (right c.args.s ≡ true) = (let w = number_zero c.args.s (length c.args.mem.now) (first_zero _ _ (sym (is_why) ∙ c.if-n-ne0.false)).0 in

@@ -1,5 +1,5 @@
 -- `session::pieces::feed_held` meets its contract: the piece is its first part and what stands behind it.
-use Rattle.std.proofs.Common.{◌≡◌, ℕ, ◌+◌, ◌-◌, ◌^◌, ◌<◌, ◌≤◌, Bool, true, false, cond, eqb, List, ◌++◌, length, take, drop, sym, ap, ◌∙◌, arith, length-append, length-drop, take-append-drop, length-take-le, take_all, eq-eqb, ne_eqb}
+use Rattle.std.proofs.Common.{◌≡◌, ℕ, ◌+◌, ◌-◌, ◌^◌, ◌<◌, ◌≤◌, Bool, false, cond, eqb, List, ◌++◌, length, take, drop, sym, ap, ◌∙◌, arith, length-append, length-drop, take-append-drop, length-take-le, take_all, eq-eqb, ne_eqb}
 use lib.Seq.{sets}
 use Rattle.machine.specs.Valid.{valid}
 use Rattle.session_rules.specs.declared.Fed.{Fed}
@@ -79,7 +79,7 @@ returns-clause-value c =
     let fills : length (holds c.args.s ++ front) ≡ 16 = (let l = front_length in
     let h : length (holds c.args.s) ≡ c.args.s.held = c.fill-a.ensures.s_len in
     let w = length-append (holds c.args.s) (front) in
-    omega (arith, c.requires.le_held.1)) in
+    omega (arith, c.requires.held_bounds.1)) in
     let z : (first).fed.answer ≡ 0 = sym (ap (λ (x : Fed). x.answer) c.fill-a.ensures.value) ∙ c.if-a-ne0.false in
     let w : all ≡ onto (first) (second) = all_is ∙ ap (λ (b : Bool). cond b (onto (first) (second)) (first)) (eq-eqb _ 0 z) in
     let u = filled_up c.args.s c.args.mem.now (front) (fills) z in
@@ -105,7 +105,7 @@ returns-clause-mem_after c =
     let fills : length (holds c.args.s ++ front) ≡ 16 = (let l = front_length in
     let h : length (holds c.args.s) ≡ c.args.s.held = c.fill-a.ensures.s_len in
     let w = length-append (holds c.args.s) (front) in
-    omega (arith, c.requires.le_held.1)) in
+    omega (arith, c.requires.held_bounds.1)) in
     let z : (first).fed.answer ≡ 0 = sym (ap (λ (x : Fed). x.answer) c.fill-a.ensures.value) ∙ c.if-a-ne0.false in
     let w : all ≡ onto (first) (second) = all_is ∙ ap (λ (b : Bool). cond b (onto (first) (second)) (first)) (eq-eqb _ 0 z) in
     let u = filled_up c.args.s c.args.mem.now (front) (fills) z in
@@ -131,7 +131,7 @@ returns-clause-answers_after c =
     let fills : length (holds c.args.s ++ front) ≡ 16 = (let l = front_length in
     let h : length (holds c.args.s) ≡ c.args.s.held = c.fill-a.ensures.s_len in
     let w = length-append (holds c.args.s) (front) in
-    omega (arith, c.requires.le_held.1)) in
+    omega (arith, c.requires.held_bounds.1)) in
     let z : (first).fed.answer ≡ 0 = sym (ap (λ (x : Fed). x.answer) c.fill-a.ensures.value) ∙ c.if-a-ne0.false in
     let w : all ≡ onto (first) (second) = all_is ∙ ap (λ (b : Bool). cond b (onto (first) (second)) (first)) (eq-eqb _ 0 z) in
     let u = filled_up c.args.s c.args.mem.now (front) (fills) z in
