@@ -77,6 +77,7 @@ fn judged(f: Fields, zero: bool, r: Row, event: Event) -> Read
 }
 
 // The kind chooses the row; all other values are refused by 8.
+#[tactic(auto, unfolding(crate::specs::Tape::of_kind, kinds::specs::Rows::kind_right))]
 pub fn of_kind(f: Fields, zero: bool) -> Read
     ensures { result ≡ of_kind f zero }
 {

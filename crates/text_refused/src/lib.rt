@@ -10,6 +10,7 @@ use text_lines::{LONGEST, append, bad_line};
 
 // The line of input that is too long, which is tested first (rule P2), or of a bad record (rule P3), put into out as far as it has places.
 // 0, and nothing written, where the input is to be run: neither line is empty.
+#[tactic(auto, unfolding(crate::specs::Inner::refused))]
 pub fn refused(input: &[u8], out: &mut [u8]) -> usize
     ensures value { result ≡ length (refused input.now) }
     ensures out_after { out.new ≡ sets out.old 0 (refused input.now) }

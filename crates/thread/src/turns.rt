@@ -98,6 +98,7 @@ fn to_t(now: bool, a: Asked) -> Turn
 }
 
 // From S to N: TM off that is asked for TM off is done, and leaves S.
+#[tactic(auto, unfolding(crate::specs::Turns::table))]
 fn to_n(now: bool, a: Asked) -> Turn
     ensures { result ≡ table State.S false false now a.tm }
 {

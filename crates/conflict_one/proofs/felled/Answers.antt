@@ -24,7 +24,8 @@ returns-then-m c =
     let y = sym (ap (λ (o : Head). o.control.msr.doomed) c.read_head-h.ensures) ∙ q in
     struck_is t touch c.args.cause g.control.msr.state true h
     ∙ (λ j. cond (is_live (x j) (y j) && true) (felled (x j) t c.args.cause) t)) in
-    λ ix vl touch q. sym (met State.S true c.in-S.is c.if-m.true ix vl touch q)
+    let suspended : c.read_head-h.result.control.msr.state ≡ State.S = cc in
+    λ ix vl touch q. sym (met State.S true suspended c.if-m.true ix vl touch q)
 
 pub returns-in-N : goal.returns-in-N
 returns-in-N c =
@@ -59,7 +60,8 @@ returns-else-m c =
     let y = sym (ap (λ (o : Head). o.control.msr.doomed) c.read_head-h.ensures) ∙ q in
     struck_is t touch c.args.cause g.control.msr.state true h
     ∙ (λ j. cond (is_live (x j) (y j) && true) (felled (x j) t c.args.cause) t)) in
+    let suspended : c.read_head-h.result.control.msr.state ≡ State.S = cc in
     let g = c.write_head.ensures ∙ c.recorded.ensures ∙ ap (λ (h : Head). heads.recorded h c.args.cause false) c.read_head-h.ensures in
     λ ix vl touch q. (λ j. thread_with (g j) c.args.gpr.now c.args.cr.now c.args.kgpr.now c.args.kcr.now ix vl)
     ∙ recorded_is (head_of c.args.words.now) c.args.gpr.now c.args.cr.now c.args.kgpr.now c.args.kcr.now ix vl c.args.cause false
-    ∙ sym (met State.S false c.in-S.is c.if-m.false ix vl touch q)
+    ∙ sym (met State.S false suspended c.if-m.false ix vl touch q)

@@ -1,6 +1,7 @@
 -- `run::run` meets its contract.
 use mathlib.Core.Path.{◌≡◌, sym, ap, ◌∙◌}
 use mathlib.Core.Bool.{true}
+use native.Mathlib.Omega.{arith}
 use lib.ListN.{length}
 use lib.Seq.{sets}
 use borrow.Author.Tests.{ne_eqb}
@@ -50,22 +51,26 @@ run_valid-requires-clause-mem_value c =
 pub run_valid-requires-clause-record_size_value : goal.run_valid-requires-clause-record_size_value
 run_valid-requires-clause-record_size_value c =
     let passed : valid c.args.m (length c.args.mem.now) ≡ true = passes_valid _ _ (sym c.number-number.ensures ∙ c.if-number-ne0.false) in
-    all_judged _ (sym (ap (λ (x : Found). x.answer) c.bad_record-found.ensures) ∙ c.if-found-ne-DONE.false)
+    let none : c.bad_record-found.result.answer ≡ 0 = omega arith in
+    all_judged _ (sym (ap (λ (x : Found). x.answer) c.bad_record-found.ensures) ∙ none)
 
 pub returns-clause-value : goal.returns-clause-value
 returns-clause-value c =
     let passed : valid c.args.m (length c.args.mem.now) ≡ true = passes_valid _ _ (sym c.number-number.ensures ∙ c.if-number-ne0.false) in
-    let w = run_plays c.args.m c.args.mem.now c.args.tape.now (passed) (sym (ap (λ (x : Found). x.answer) c.bad_record-found.ensures) ∙ c.if-found-ne-DONE.false) in
+    let none : c.bad_record-found.result.answer ≡ 0 = omega arith in
+    let w = run_plays c.args.m c.args.mem.now c.args.tape.now (passed) (sym (ap (λ (x : Found). x.answer) c.bad_record-found.ensures) ∙ none) in
     c.run_valid.ensures.value ∙ sym (ap (λ x. x.ended) w)
 
 pub returns-clause-mem_after : goal.returns-clause-mem_after
 returns-clause-mem_after c =
     let passed : valid c.args.m (length c.args.mem.now) ≡ true = passes_valid _ _ (sym c.number-number.ensures ∙ c.if-number-ne0.false) in
-    let w = run_plays c.args.m c.args.mem.now c.args.tape.now (passed) (sym (ap (λ (x : Found). x.answer) c.bad_record-found.ensures) ∙ c.if-found-ne-DONE.false) in
+    let none : c.bad_record-found.result.answer ≡ 0 = omega arith in
+    let w = run_plays c.args.m c.args.mem.now c.args.tape.now (passed) (sym (ap (λ (x : Found). x.answer) c.bad_record-found.ensures) ∙ none) in
     c.run_valid.ensures.mem_after ∙ sym (ap (λ x. x.memory) w)
 
 pub returns-clause-answers_after : goal.returns-clause-answers_after
 returns-clause-answers_after c =
     let passed : valid c.args.m (length c.args.mem.now) ≡ true = passes_valid _ _ (sym c.number-number.ensures ∙ c.if-number-ne0.false) in
-    let w = run_plays c.args.m c.args.mem.now c.args.tape.now (passed) (sym (ap (λ (x : Found). x.answer) c.bad_record-found.ensures) ∙ c.if-found-ne-DONE.false) in
+    let none : c.bad_record-found.result.answer ≡ 0 = omega arith in
+    let w = run_plays c.args.m c.args.mem.now c.args.tape.now (passed) (sym (ap (λ (x : Found). x.answer) c.bad_record-found.ensures) ∙ none) in
     c.run_valid.ensures.answers_after ∙ sym (ap (λ x. sets c.args.answers.now 0 x.answers) w)

@@ -1,6 +1,7 @@
 -- `editions::converter::convert` meets its contract.
 use mathlib.Core.Path.{◌≡◌, sym, ap, ◌∙◌}
 use borrow.Author.Tests.{eq-eqb, ne_eqb, le-ltb, lt-ltb}
+use native.Mathlib.Omega.{arith}
 use lib.ListN.{length}
 use mathlib.Core.List.{List}
 use Prim.Native.Nat.{ℕ, ◌/◌, ◌%◌, ◌≤◌}
@@ -57,10 +58,10 @@ returns-then-found-ne-DONE-clause-buf_after c =
 
 pub returns-clause-value : goal.returns-clause-value
 returns-clause-value c =
-    let whole = c.if-n-ne0.false in
-    let z = sym (ap (λ r. r.answer) c.first_bad-found.ensures) ∙ c.if-found-ne-DONE.false in c.first_bad-found.ensures ∙ sym (first c.args.d c.args.tape.now c.args.buf.now whole c.if-buf-n.false)
+    let whole = c.if-n-ne0.false in c.first_bad-found.ensures ∙ sym (first c.args.d c.args.tape.now c.args.buf.now whole c.if-buf-n.false)
 
 pub returns-clause-buf_after : goal.returns-clause-buf_after
 returns-clause-buf_after c =
     let whole = c.if-n-ne0.false in
-    let z = sym (ap (λ r. r.answer) c.first_bad-found.ensures) ∙ c.if-found-ne-DONE.false in c.turn_all.ensures ∙ done c.args.d c.args.tape.now c.args.buf.now whole c.if-buf-n.false z
+    let none : c.first_bad-found.result.answer ≡ 0 = omega arith in
+    let z = sym (ap (λ r. r.answer) c.first_bad-found.ensures) ∙ none in c.turn_all.ensures ∙ done c.args.d c.args.tape.now c.args.buf.now whole c.if-buf-n.false z
