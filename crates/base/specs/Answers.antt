@@ -1,5 +1,9 @@
 -- The numbers given back (rule N1). src/answer.rt has the same numbers for the code.
-use Rattle.std.specs.Prelude.{ℕ}
+use Rattle.std.specs.Prelude.{ℕ, Result, Ok, Err}
+use Rattle.base.specs.declared.answer.Completion.{Completion}
+use Rattle.base.specs.declared.answer.Completion.TheVariants.{Done, Handled, Recorded}
+use Rattle.base.specs.declared.answer.Refusal.{Refusal}
+use Rattle.base.specs.declared.answer.Refusal.TheVariants.{Size, NoMachine, NoThread, Operand, HostInT, TapeLength, BadFirstByte, NoKind, Field, ShortBuffer, FacilityOff, Privileged, BadThing}
 
 -- done
 abbrev pub done : ℕ
@@ -64,3 +68,33 @@ handled = 20
 -- done, own failure recorded in S
 abbrev pub recorded : ℕ
 recorded = 21
+
+-- the number of a completion, of a refusal, and of an answer, which is one or the other
+abbrev pub completion_number : Completion → ℕ
+completion_number Done = done
+completion_number Handled = handled
+completion_number Recorded = recorded
+
+abbrev pub refusal_number : Refusal → ℕ
+refusal_number Size = size
+refusal_number NoMachine = no_machine
+refusal_number NoThread = no_thread
+refusal_number Operand = operand
+refusal_number HostInT = host_in_t
+refusal_number TapeLength = tape_length
+refusal_number BadFirstByte = bad_first_byte
+refusal_number NoKind = no_kind
+refusal_number Field = field
+refusal_number ShortBuffer = short_buffer
+refusal_number FacilityOff = facility_off
+refusal_number Privileged = privileged
+refusal_number BadThing = bad_thing
+
+abbrev pub answer_of : Result Completion Refusal → ℕ
+answer_of (Ok c) = completion_number c
+answer_of (Err r) = refusal_number r
+
+-- the number of what is refused or not
+abbrev pub judgement_number : Result (Unit {0}) Refusal → ℕ
+judgement_number (Ok u) = done
+judgement_number (Err r) = refusal_number r

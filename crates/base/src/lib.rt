@@ -39,10 +39,10 @@ pub const CR_FIELDS: usize = 7;
 // Thread records of a machine.
 pub const THREADS: usize = 4;
 
-// A single bit as a number.
+// A single bit as a number, with the bound that sums of bits need.
 pub fn bit(b: bool) -> u64
     ensures value { result ≡ bit b }
     ensures upper_bound { result < 2 }
 {
-    if b { 1 } else { 0 }
+    u64::from(b)
 }

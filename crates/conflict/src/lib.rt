@@ -1,151 +1,66 @@
-// Conflicts with the other threads (rules A3 and A6), in place: where no set is met nothing is touched. A line and a page are both a mask for
-// one word of a set, so that the scan looks at one word of each other thread, or two where read sets count.
+// Conflicts with the other threads (rules A3 and A6): whom what an event touches makes fail, and by which cause.
 #![tactic(auto)]
 
-ghost use Rattle.std.specs.Prelude.{◌≡◌, cond, List, ℕ, ◌<◌, set, ◌==◌};
-ghost use Rattle.base.specs.Limits as limits;
-ghost use Rattle.base.specs.Limits.{most_threads};
+ghost use Rattle.std.specs.Prelude.{◌≡◌};
 ghost use Rattle.transaction.specs.Inner.{Lined};
-ghost use Rattle.transaction.specs.declared.Touch.{Touch};
-ghost use Rattle.machine.specs.Machine.{thread};
-ghost use Rattle.rows.specs.Rows.{rows, threads_of};
-ghost use Rattle.step_rules.specs.Conflict.{struck, strike};
-ghost use Rattle.conflict_one.specs.Inner.{Stands};
-ghost use Rattle.conflict.specs.Inner.{others_from};
+ghost use Rattle.step_rules.specs.Conflict.{hits, struck};
+ghost use Rattle.conflict.specs.Inner.{cause, others_from};
 
-use base::{CR_FIELDS, GPRS, THREADS};
-use rows::HEAD;
-use thread::State;
-use transaction::{Cause, Touch};
+use base::THREADS;
+use thread::{State, Thread};
+use transaction::{Cause, Touch, Transaction};
 
-// Whether a transaction that has only loaded a line fails too, where a load, a store or a tlbie of its page touches it.
-const READERS_OF_LOAD: bool = false;
-
-const READERS_OF_STORE: bool = true;
-
-const READERS_OF_PAGE: bool = true;
-
-// Thread i of the four, unless it is the accessor.
-fn strike_at(
-    gpr: &mut [[u64; GPRS]; THREADS],
-    cr: &mut [[u8; CR_FIELDS]; THREADS],
-    kgpr: &[[u64; GPRS]; THREADS],
-    kcr: &[[u8; CR_FIELDS]; THREADS],
-    words: &mut [[u64; HEAD]; THREADS],
-    i: usize,
-    w: usize,
-    stores: bool,
-    k: usize,
-    mask: u64,
-    cause: Cause,
-)
-    requires i_lt_most_threads { i < most_threads }
-    requires k_lt_words { k < limits.words }
-    ensures { (ix vl : List (List ℕ)) (touch : Touch) → Stands touch stores k mask → let ts = threads_of (rows gpr.old cr.old kgpr.now kcr.now words.old ix vl) in threads_of (rows gpr.new cr.new kgpr.now kcr.now words.new ix vl) ≡ cond (i == w) ts (set ts i (struck (thread ts i).control.msr.state (thread ts i) touch cause)) }
-{
-    if i == w {
-        return;
-    }
-    rows::four_gprs(*gpr);
-    rows::four_crs(*cr);
-    rows::four_heads(*words);
-    conflict_one::struck(
-        &mut gpr[i],
-        &mut cr[i],
-        &kgpr[i],
-        &kcr[i],
-        &mut words[i],
-        stores,
-        k,
-        mask,
-        cause,
-    );
-}
-
-// Every thread but the accessor.
-fn strike(
-    gpr: &mut [[u64; GPRS]; THREADS],
-    cr: &mut [[u8; CR_FIELDS]; THREADS],
-    kgpr: &[[u64; GPRS]; THREADS],
-    kcr: &[[u8; CR_FIELDS]; THREADS],
-    words: &mut [[u64; HEAD]; THREADS],
-    w: usize,
-    stores: bool,
-    k: usize,
-    mask: u64,
-    cause: Cause,
-)
-    requires { k < limits.words }
-    ensures { (ix vl : List (List ℕ)) (touch : Touch) → Stands touch stores k mask → threads_of (rows gpr.new cr.new kgpr.now kcr.now words.new ix vl) ≡ strike (threads_of (rows gpr.old cr.old kgpr.now kcr.now words.old ix vl)) w touch cause most_threads }
-{
-    for i in 0..THREADS {
-        strike_at(
-            &mut *gpr,
-            &mut *cr,
-            kgpr,
-            kcr,
-            &mut *words,
-            i,
-            w,
-            stores,
-            k,
-            mask,
-            cause,
-        );
-    }
-}
-
-// What thread w's touch leaves of the other threads, w's own event done already: s is the state that it was in before.
-pub fn others(
-    gpr: &mut [[u64; GPRS]; THREADS],
-    cr: &mut [[u8; CR_FIELDS]; THREADS],
-    kgpr: &[[u64; GPRS]; THREADS],
-    kcr: &[[u8; CR_FIELDS]; THREADS],
-    words: &mut [[u64; HEAD]; THREADS],
-    w: usize,
-    touch: Touch,
-    s: State,
-)
+// A load meets those that have stored to the line alone, a store and a tlbie also those that have only loaded it.
+// `Lined`, here and below: a line or a page is a number in `Touch`, which the definitions have without a bound.
+#[tactic(auto, unfolding(step_rules::specs::Conflict::hits))]
+fn hits(transaction: &Transaction, touch: Touch) -> bool
     requires { Lined touch }
-    ensures { (ix vl : List (List ℕ)) → threads_of (rows gpr.new cr.new kgpr.now kcr.now words.new ix vl) ≡ others_from s touch (threads_of (rows gpr.old cr.old kgpr.now kcr.now words.old ix vl)) w }
+    ensures { result ≡ hits transaction.now touch }
 {
     match touch {
-        Touch::Untouched => {}
-        Touch::Load(l) => strike(
-            &mut *gpr,
-            &mut *cr,
-            kgpr,
-            kcr,
-            &mut *words,
-            w,
-            READERS_OF_LOAD,
-            l / 64,
-            lines::line_mask(l),
-            conflict_one::conflict_cause(s),
-        ),
-        Touch::Store(l) => strike(
-            &mut *gpr,
-            &mut *cr,
-            kgpr,
-            kcr,
-            &mut *words,
-            w,
-            READERS_OF_STORE,
-            l / 64,
-            lines::line_mask(l),
-            conflict_one::conflict_cause(s),
-        ),
-        Touch::Page(p) => strike(
-            &mut *gpr,
-            &mut *cr,
-            kgpr,
-            kcr,
-            &mut *words,
-            w,
-            READERS_OF_PAGE,
-            p / 2,
-            lines::page_mask(p),
-            Cause::Translation,
-        ),
+        Touch::Untouched => false,
+        Touch::Load(line) => transaction.writes.has(line),
+        Touch::Store(line) => transaction.writes.has(line) || transaction.reads.has(line),
+        Touch::Page(page) => transaction.writes.has_page(page) || transaction.reads.has_page(page),
+    }
+}
+
+// The cause is by the state that the access is made in.
+pub fn cause(touch: Touch, state: State) -> Cause
+    ensures { result ≡ cause touch state }
+{
+    match (touch, state) {
+        (Touch::Page(_), _) => Cause::Translation,
+        (_, State::T) => Cause::Conflict,
+        _ => Cause::PlainConflict,
+    }
+}
+
+// Another thread: a live transaction that is hit fails.
+#[tactic(auto, unfolding(step_rules::specs::Conflict::struck))]
+fn strike(thread: &mut Thread, touch: Touch, cause: Cause)
+    requires { Lined touch }
+    ensures { thread.new ≡ struck thread.old.control.msr.state thread.old touch cause }
+{
+    if thread.is_live() && hits(&thread.transaction, touch) {
+        thread.fell(cause);
+    }
+}
+
+// What thread w's touch leaves of the other threads, w's own event done already: state is the one that it was in before.
+#[tactic(auto, using(crate::proofs::Laws::loop_steps), unfolding(crate::specs::Inner::others_from))]
+pub fn others(threads: &mut [Thread; THREADS], w: usize, touch: Touch, state: State)
+    requires { Lined touch }
+    ensures { threads.new ≡ others_from state touch threads.old w }
+{
+    // Most events touch nothing.
+    if matches!(touch, Touch::Untouched) {
+        return;
+    }
+    let cause = cause(touch, state);
+    for (k, thread) in threads.iter_mut().enumerate() {
+        if k != w {
+            strike(thread, touch, cause);
+        }
     }
 }

@@ -14,6 +14,7 @@ const BYTES: u32 = DOUBLEWORD_BYTES as u32;
 pub const ALL: u8 = 255;
 
 // A byte of ones for each mark, without a loop.
+#[tactic(auto, unfolding(crate::specs::Inner::spread))]
 fn spread(marks: u8) -> u64
     ensures { result ≡ spread marks }
 {
@@ -30,7 +31,7 @@ pub fn merged(marks: u8, old: u64, new: u64) -> u64
         return new;
     }
     let mask = spread(marks);
-    (new & mask) | (old & (0xFFFF_FFFF_FFFF_FFFF - mask))
+    (new & mask) | (old & !mask)
 }
 
 // The bytes that are not marked are zero.
@@ -48,7 +49,7 @@ pub fn lowest(width: u32, address: u32) -> u32
     BYTES - width - address % BYTES
 }
 
-// The number that some bytes make.
+// The number that some bytes make. Place and width stand apart, here and in `marks_of` and `placed`, as the definitions of these names take them.
 pub fn part(low: u32, width: u32, v: u64) -> u64
     requires width_nonzero { 0 < width }
     requires width_bound { low + width ≤ bytes }
@@ -62,8 +63,7 @@ pub fn part(low: u32, width: u32, v: u64) -> u64
 
 // The marks of some bytes, and a register's low bytes at their places.
 pub fn marks_of(low: u32, width: u32) -> u8
-    requires width_lt_bytes { width < bytes }
-    requires width_bound { low + width ≤ bytes }
+    requires { low + width ≤ bytes }
     ensures { result ≡ marks_of low width }
 {
     let ones: u32 = (1 << width) - 1;
@@ -72,9 +72,11 @@ pub fn marks_of(low: u32, width: u32) -> u8
 
 pub fn placed(low: u32, width: u32, x: u64) -> u64
     requires width_nonzero { 0 < width }
-    requires width_lt_bytes { width < bytes }
     requires width_bound { low + width ≤ bytes }
     ensures { result ≡ placed low width x }
 {
+    if width == BYTES {
+        return x;
+    }
     (x % (1 << (8 * width))) << (8 * low)
 }

@@ -1,6 +1,8 @@
 -- One record of edition two (rules T9 and T10): its layout and its reader.
-use Rattle.std.specs.Prelude.{ℕ, ◌/◌, ◌%◌, Bool, not, cond, ◌&&◌, List, [], ◌∷◌, length, nat_le, ◌==◌}
+use Rattle.std.specs.Prelude.{ℕ, ◌/◌, ◌%◌, Bool, not, cond, ◌&&◌, List, [], ◌∷◌, length, nat_le, nat_lt, ◌==◌}
 use Rattle.base.specs.Answers as answer
+use Rattle.event.specs.Event.{kind}
+use Rattle.event.specs.declared.Event.{Event}
 use Rattle.event.specs.declared.Fields.{Fields}
 use Rattle.tape.specs.Tape.{record_size, byte, two, four, of_kind}
 use Rattle.tape.specs.declared.Read.{Read}
@@ -29,6 +31,14 @@ fields_at bs =
 
 abbrev pub fixed_zero : List ℕ → Bool
 fixed_zero bs = (byte bs 12 == 0) && (byte bs 13 == 0) && (byte bs 14 == 0) && (byte bs 15 == 0)
+
+-- number 7 or 8, or 0
+abbrev pub marked : List ℕ → ℕ
+marked bs = cond (nat_le (byte bs 0) last_thread) (cond (nat_le (byte bs 1) last_kind) answer.done answer.no_kind) answer.bad_first_byte
+
+-- the number of an event that the edition has no record for: 3 for the thread, then 8 for the kind; else 0
+abbrev pub no_record : ℕ → Event → ℕ
+no_record w e = cond (nat_lt last_thread w) answer.no_thread (cond (nat_lt last_kind (kind e)) answer.no_kind answer.done)
 
 unfoldable pub bytes : Fields → List ℕ
 bytes f =

@@ -1,84 +1,80 @@
-// One record of edition two, read and written (rules T9 and T10).
+// Edition two of the tape, beside which `tape::layout` has the reader and `tape_writer` the writer (rules T9 and T10).
 #![tactic(auto)]
 
-ghost use Rattle.std.specs.Prelude.{◌≡◌, length};
-ghost use Rattle.tape.specs.Tape.{record_size};
-ghost use Rattle.edition_two.specs.Two.{fields_at, fixed_zero, bytes, read};
+ghost use Rattle.edition_two.specs.Two.{marked, fields_at, fixed_zero, bytes, no_record};
 
-use base::answer;
-use event::Fields;
-use tape::{RECORD_SIZE, Read, reader};
+use base::answer::Refusal;
+use event::{Event, Fields};
+use tape::RECORD_SIZE;
+use tape::layout::Layout;
 
-// The last thread and the last kind that this edition has. specs/Two.antt has the same numbers for the definitions.
+// The last thread and the last kind that this edition has. specs/Two.antt has the same numbers for the definitions. A record's bytes are held
+// against them: thread and kind are numbers on the tape.
 pub const LAST_THREAD: u8 = 3;
 
 pub const LAST_KIND: u8 = 17;
 
-// The fields at their places.
-fn fields_at(s: &[u8]) -> Fields
-    requires { length s.now ≡ record_size }
-    ensures { result ≡ fields_at s.now }
-{
-    Fields {
-        kind: s[1],
-        thread: s[0],
-        x: s[2],
-        ra: s[3],
-        rb: s[4],
-        flags: s[5],
-        index: reader::four(s[11], s[10], s[9], s[8]),
-        si: reader::two(s[7], s[6]),
-    }
-}
+// Thread, kind, X, RA, RB, flags, SI and index lowest byte first, 0, 0, 0, 0.
+pub struct Two;
 
-// The fixed 0 bytes are 0.
-fn fixed_zero(s: &[u8]) -> bool
-    requires { length s.now ≡ record_size }
-    ensures { result ≡ fixed_zero s.now }
-{
-    (s[12] == 0) & (s[13] == 0) & (s[14] == 0) & (s[15] == 0)
-}
+// What edition two has of its own; all else is generic over `Layout`.
+impl Layout for Two {
+    ghost marked = { marked };
 
-// A lone record. Refused by 6, 7, 8, 9 in this order. A kind of a later request is refused by 8, though edition three has it.
-pub fn read(s: &[u8]) -> Read
-    ensures { result ≡ read s.now }
-{
-    if s.len() != RECORD_SIZE {
-        return Read::Refused(answer::TAPE_LENGTH);
-    }
-    let thread = s[0];
-    if LAST_THREAD < thread {
-        return Read::Refused(answer::BAD_FIRST_BYTE);
-    }
-    let kind = s[1];
-    if LAST_KIND < kind {
-        return Read::Refused(answer::NO_KIND);
-    }
-    reader::of_kind(fields_at(s), fixed_zero(s))
-}
+    ghost fields_at = { fields_at };
 
-// The record's bytes.
-pub fn bytes(f: Fields) -> [u8; RECORD_SIZE]
-    ensures { result ≡ bytes f }
-{
-    let index = f.index;
-    let si = f.si;
-    [
-        f.thread,
-        f.kind,
-        f.x,
-        f.ra,
-        f.rb,
-        f.flags,
-        (si % 256) as u8,
-        (si / 256 % 256) as u8,
-        (index % 256) as u8,
-        (index / 256 % 256) as u8,
-        (index / 256 / 256 % 256) as u8,
-        (index / 256 / 256 / 256 % 256) as u8,
-        0,
-        0,
-        0,
-        0,
-    ]
+    ghost fixed_zero = { fixed_zero };
+
+    ghost bytes = { bytes };
+
+    ghost no_record = { no_record };
+
+    // A kind of a later version of the rules is refused by 8, though edition three has it.
+    fn marked(s: &[u8; RECORD_SIZE]) -> Result<(), Refusal> {
+        if LAST_THREAD < s[0] {
+            return Err(Refusal::BadFirstByte);
+        }
+        if LAST_KIND < s[1] {
+            return Err(Refusal::NoKind);
+        }
+        Ok(())
+    }
+
+    #[tactic(auto, unfolding(crate::specs::Two::fields_at))]
+    fn fields_at(s: &[u8; RECORD_SIZE]) -> Fields {
+        Fields {
+            kind: s[1],
+            thread: s[0],
+            x: s[2],
+            ra: s[3],
+            rb: s[4],
+            flags: s[5],
+            index: u32::from_le_bytes([s[8], s[9], s[10], s[11]]),
+            si: u16::from_le_bytes([s[6], s[7]]),
+        }
+    }
+
+    fn fixed_zero(s: &[u8; RECORD_SIZE]) -> bool {
+        s[12..].iter().all(|b| *b == 0)
+    }
+
+    #[tactic(auto, unfolding(crate::specs::Two::bytes))]
+    fn bytes(f: Fields) -> [u8; RECORD_SIZE] {
+        let i = f.index.to_le_bytes();
+        let si = f.si.to_le_bytes();
+        [
+            f.thread, f.kind, f.x, f.ra, f.rb, f.flags, si[0], si[1], i[0], i[1], i[2], i[3], 0, 0,
+            0, 0,
+        ]
+    }
+
+    fn has_record(thread: u8, e: Event) -> Result<(), Refusal> {
+        if LAST_THREAD < thread {
+            return Err(Refusal::NoThread);
+        }
+        if LAST_KIND < event::kind(e) {
+            return Err(Refusal::NoKind);
+        }
+        Ok(())
+    }
 }

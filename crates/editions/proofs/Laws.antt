@@ -5,7 +5,7 @@ use mathlib.Core.List.{List, [], ◌∷◌, ◌++◌}
 use Prim.Native.Nat.{ℕ, zero, suc, ◌+◌, ◌*◌, ◌<◌}
 use native.Mathlib.Omega.{arith}
 use lib.Dec.{eqb, leb}
-use lib.ListN.{length, set, length-append}
+use lib.ListN.{length, get_or, set, length-append}
 use lib.Seq.{sets}
 use Rattle.event.specs.Event.{fields_of}
 use Rattle.event.specs.declared.Event.{Event}
@@ -13,6 +13,9 @@ use Rattle.event.specs.declared.Fields.{Fields}
 use Rattle.kinds.specs.Rows.{kind_right, row}
 use Rattle.tape.specs.Tape as three
 use Rattle.tape.specs.Tape.{record_size, first_byte, byte, unused_clear, judged, of_kind, record_at}
+use Rattle.std.specs.Simd.{first_chunks}
+use Rattle.tape.specs.FirstBad.{first_bad}
+use Rattle.tape.proofs.FirstBad.{each_good, chunk_is}
 use Rattle.tape.specs.declared.Read.{Read}
 use Rattle.tape.specs.declared.Read.TheVariants.{Record, Refused}
 use Rattle.edition_two.specs.Two as two
@@ -81,3 +84,19 @@ sets_behind l i [] ys = let e : i + 0 ≡ i = omega arith in ap (λ (n : ℕ). s
 sets_behind l i (x ∷ xs) ys =
     let e : i + suc (length xs) ≡ suc i + length xs = omega arith in
     ap (λ (n : ℕ). sets (sets (set l i x) (suc i) xs) n ys) e ∙ sets_behind (set l i x) (suc i) xs ys
+
+-- records turned and laid one behind another: none, and one more
+pub none_turned : (d : Edition) (tape buf : List ℕ) → sets buf 0 (all_turned d tape 0) ≡ buf
+unfolding all_turned
+none_turned d tape buf = refl
+
+pub one_more : (d : Edition) (tape buf : List ℕ) (n k : ℕ) → (first_bad (number d) tape 0 n).answer ≡ 0 → k < n
+    → sets (sets buf 0 (all_turned d tape k)) (k * record_size) (turned d (get_or (first_chunks record_size n tape) k [])) ≡ sets buf 0 (all_turned d tape (k + 1))
+unfolding all_turned
+one_more d tape buf n k z h =
+    let l = length_all_turned d tape k (λ i g. each_good (number d) tape n i z (omega arith)) in
+    let e : k * record_size ≡ 0 + length (all_turned d tape k) = omega arith in
+    let m : suc k ≡ k + 1 = omega arith in
+    (λ j. sets (sets buf 0 (all_turned d tape k)) (e j) (turned d (chunk_is tape n k h j)))
+    ∙ sets_behind buf 0 (all_turned d tape k) (turned d (record_at tape k))
+    ∙ ap (λ (i : ℕ). sets buf 0 (all_turned d tape i)) m

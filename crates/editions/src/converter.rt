@@ -7,93 +7,65 @@ ghost use Rattle.editions.specs.Editions.{number, turned, all_turned, convert_an
 
 use crate::Edition;
 use base::answer;
-use tape::{Found, RECORD_SIZE, Read};
+use tape::{Found, RECORD_SIZE, Read, records};
 
-// The number of a record that cannot be had in the other edition, or 0.
+// The number of a record that cannot be had in the other edition, or 0. A number, as `Found` has one and `number` is defined.
+#[tactic(auto, unfolding(crate::specs::Editions::number))]
 fn number(d: Edition, s: &[u8]) -> u8
     ensures { result ≡ number d s.now }
 {
-    let found = crate::read(d, s);
-    match found {
-        Read::Record { thread, event } => crate::no_record(crate::other(d), thread, event),
+    match crate::read(d, s) {
+        Read::Record { thread, event } => answer::judgement(d.other().has_record(thread, event)),
         Read::Refused(n) => n,
     }
 }
 
-// The first such record of a tape.
-fn first_bad(d: Edition, tape: &[u8]) -> Found
-    ensures { result ≡ first_bad (number d) tape.now 0 (length tape.now / record_size) }
-{
-    let n = tape.len() / RECORD_SIZE;
-    let mut k: usize = 0;
-    while k < n {
-        let at = k * RECORD_SIZE;
-        let end = at + RECORD_SIZE;
-        let a = number(d, &tape[at..end]);
-        if a != answer::DONE {
-            return Found {
-                answer: a,
-                index: k,
-            };
-        }
-        k += 1;
-    }
-    Found {
-        answer: answer::DONE,
-        index: k,
-    }
-}
-
-// A record in the other edition, at a place of the buffer.
+// A record in the other edition, at a place of the buffer, which is lent: one slice of it (`tape_writer::put`).
+#[tactic(auto, unfolding(crate::specs::Editions::turned))]
 fn turn(d: Edition, s: &[u8], buf: &mut [u8], at: usize)
     requires { at + record_size ≤ length buf.old }
     ensures { buf.new ≡ sets buf.old at (turned d s.now) }
 {
-    let found = crate::read(d, s);
-    let Read::Record { thread, event } = found else {
+    let Read::Record { thread, event } = crate::read(d, s) else {
         return;
     };
-    let record = crate::bytes(crate::other(d), event::fields_of(thread, event));
-    tape_writer::put(buf, at, &record);
+    tape_writer::put(buf, at, &d.other().bytes(event::fields_of(thread, event)));
 }
 
 // All records of a tape that has no bad one.
+#[tactic(auto, using(crate::proofs::Laws::one_more, crate::proofs::Laws::none_turned))]
 fn turn_all(d: Edition, tape: &[u8], buf: &mut [u8])
     requires tape_in_bounds { length tape.now ≤ length buf.old }
-    requires record_size_value { (first_bad (number d) tape.now 0 (length tape.now / record_size)).answer ≡ 0 }
+    requires none_bad { (first_bad (number d) tape.now 0 (length tape.now / record_size)).answer ≡ 0 }
     ensures { buf.new ≡ sets buf.old 0 (all_turned d tape.now (length tape.now / record_size)) }
 {
-    let n = tape.len() / RECORD_SIZE;
-    let mut k: usize = 0;
-    while k < n {
-        let at = k * RECORD_SIZE;
-        let end = at + RECORD_SIZE;
-        turn(d, &tape[at..end], &mut *buf, at);
-        k += 1;
+    let (records, _) = tape.as_chunks::<RECORD_SIZE>();
+    for (k, record) in records.iter().enumerate() {
+        turn(d, record, buf, k * RECORD_SIZE);
     }
 }
 
+// A whole tape. Refused by 6, then by 10, then by its first bad record, with the buffer unchanged. The answer is a number, as `Found` has it.
+#[tactic(auto, unfolding(crate::specs::Editions::convert_answer, crate::specs::Editions::convert))]
 pub fn convert(d: Edition, tape: &[u8], buf: &mut [u8]) -> Found
     ensures value { result ≡ convert_answer d tape.now buf.old }
     ensures buf_after { buf.new ≡ convert d tape.now buf.old }
 {
-    let n = tape.len();
-    if n % RECORD_SIZE != 0 {
+    if tape.len() % RECORD_SIZE != 0 {
         return Found {
             answer: answer::TAPE_LENGTH,
-            index: n / RECORD_SIZE,
+            index: tape.len() / RECORD_SIZE,
         };
     }
-    if buf.len() < n {
+    if buf.len() < tape.len() {
         return Found {
             answer: answer::SHORT_BUFFER,
             index: 0,
         };
     }
-    let found = first_bad(d, tape);
-    if found.answer != answer::DONE {
-        return found;
+    let found = records::first_bad(tape, |record| number(d, record));
+    if found.answer == answer::DONE {
+        turn_all(d, tape, buf);
     }
-    turn_all(d, tape, buf);
     found
 }

@@ -3,7 +3,7 @@
 
 ghost use Rattle.std.specs.Prelude.{◌≡◌, ◌+◌, ◌*◌, ◌/◌, ◌%◌, ◌≤◌, ◌==◌};
 ghost use Rattle.base.specs.Below.{bit};
-ghost use Rattle.event.specs.Event.{fields, fields_of, event_of, kind, fields_right, operands_right, tm_instruction, privileged};
+ghost use Rattle.event.specs.Event.{fields_of, event_of, kind, fields_right, operands_right, tm_instruction, privileged};
 
 use kinds::Row;
 
@@ -103,7 +103,8 @@ pub enum Event {
     },
 }
 
-// Kinds that a refusal names. specs/Event.antt has the same numbers for the definitions.
+// Numbers of kinds, each a byte in `Fields`, as the tape and C have it: any byte may stand there, so they are no enum. `host_parts::failed` needs
+// that of tend.; the others name kinds in `fields_of`. specs/Event.antt has the same for the definitions.
 pub const TEND: u8 = 2;
 
 pub const TRECLAIM: u8 = 8;
@@ -135,111 +136,189 @@ pub struct Fields {
     pub si: u16,
 }
 
-// A single bit among the flags.
+// A single bit among the flags, with the bound that the sums of flags need.
 fn flag(b: bool) -> u8
     ensures value { result ≡ bit b }
     ensures upper_bound { result ≤ 1 }
 {
-    base::bit(b) as u8
+    u8::from(b)
 }
 
-// mtmsrd's flags.
-fn asked_flags(t: bool, s: bool, tm: bool, pr: bool) -> u8
-    ensures { result ≡ bit s + 2 * bit t + 4 * bit tm + 8 * bit pr }
+// The fields of an event. A case names those that its kind uses; the others are 0. No `From`: the thread stands beside the event.
+#[tactic(auto, unfolding(crate::specs::Event::fields_of))]
+pub fn fields_of(thread: u8, e: Event) -> Fields
+    ensures { result ≡ fields_of thread e }
 {
-    flag(s) + 2 * flag(t) + 4 * flag(tm) + 8 * flag(pr)
-}
-
-// Fields by their values, in the record's order.
-fn filled(kind: u8, thread: u8, x: u8, ra: u8, rb: u8, flags: u8, index: u32, si: u16) -> Fields
-    ensures { result ≡ fields kind thread x ra rb flags index si }
-{
-    Fields {
-        kind,
+    let none = Fields {
+        kind: 0,
         thread,
+        x: 0,
+        ra: 0,
+        rb: 0,
+        flags: 0,
+        index: 0,
+        si: 0,
+    };
+    match e {
+        Event::Tbegin { r } => Fields {
+            kind: 1,
+            flags: flag(r),
+            ..none
+        },
+        Event::Tend { a } => Fields {
+            kind: TEND,
+            flags: flag(a),
+            ..none
+        },
+        Event::Tabort { ra } => Fields {
+            kind: 3,
+            ra,
+            ..none
+        },
+        Event::Tabortwc { to, ra, rb } => Fields {
+            kind: 4,
+            x: to,
+            ra,
+            rb,
+            ..none
+        },
+        Event::Tabortdc { to, ra, rb } => Fields {
+            kind: 5,
+            x: to,
+            ra,
+            rb,
+            ..none
+        },
+        Event::Tsr { l } => Fields {
+            kind: 6,
+            flags: flag(l),
+            ..none
+        },
+        Event::Tcheck { bf } => Fields {
+            kind: 7,
+            x: bf,
+            ..none
+        },
+        Event::Treclaim { ra } => Fields {
+            kind: TRECLAIM,
+            ra,
+            ..none
+        },
+        Event::Trechkpt => Fields {
+            kind: TRECHKPT,
+            ..none
+        },
+        Event::Mtspr { spr, ra } => Fields {
+            kind: MTSPR,
+            x: spr,
+            ra,
+            ..none
+        },
+        Event::Mfspr { rt, spr } => Fields {
+            kind: 11,
+            x: spr,
+            ra: rt,
+            ..none
+        },
+        Event::Ld { rt, index } => Fields {
+            kind: 12,
+            x: rt,
+            index,
+            ..none
+        },
+        Event::Std { ra, index } => Fields {
+            kind: 13,
+            ra,
+            index,
+            ..none
+        },
+        Event::Addi { rt, ra, si } => Fields {
+            kind: 14,
+            x: rt,
+            ra,
+            si,
+            ..none
+        },
+        Event::Disallowed => Fields { kind: 15, ..none },
+        Event::Interrupt => Fields { kind: 16, ..none },
+        Event::Host { pr, tm } => Fields {
+            kind: HOST,
+            flags: flag(pr) + 2 * flag(tm),
+            ..none
+        },
+        Event::Rfid => Fields { kind: RFID, ..none },
+        Event::Mtmsrd { t, s, tm, pr } => Fields {
+            kind: MTMSRD,
+            flags: flag(s) + 2 * flag(t) + 4 * flag(tm) + 8 * flag(pr),
+            ..none
+        },
+        Event::Lbz { rt, address } => Fields {
+            kind: 20,
+            x: rt,
+            index: address,
+            ..none
+        },
+        Event::Lhz { rt, address } => Fields {
+            kind: 21,
+            x: rt,
+            index: address,
+            ..none
+        },
+        Event::Lwz { rt, address } => Fields {
+            kind: 22,
+            x: rt,
+            index: address,
+            ..none
+        },
+        Event::Stb { ra, address } => Fields {
+            kind: 23,
+            ra,
+            index: address,
+            ..none
+        },
+        Event::Sth { ra, address } => Fields {
+            kind: 24,
+            ra,
+            index: address,
+            ..none
+        },
+        Event::Stw { ra, address } => Fields {
+            kind: 25,
+            ra,
+            index: address,
+            ..none
+        },
+        Event::Tlbie { page } => Fields {
+            kind: TLBIE,
+            index: page,
+            ..none
+        },
+    }
+}
+
+// The event of fields of a right kind. No `From`: of another kind it is no event's, and no `TryFrom`: the reader judges before (`of_kind`).
+#[tactic(auto, unfolding(crate::specs::Event::event_of))]
+pub fn event_of(f: Fields) -> Event
+    ensures { result ≡ event_of f }
+{
+    let Fields {
+        kind,
         x,
         ra,
         rb,
         flags,
         index,
         si,
-    }
-}
-
-// The fields of an event.
-pub fn fields_of(thread: u8, e: Event) -> Fields
-    ensures { result ≡ fields_of thread e }
-{
-    match e {
-        Event::Tbegin { r } => filled(1, thread, 0, 0, 0, flag(r), 0, 0),
-        Event::Tend { a } => filled(TEND, thread, 0, 0, 0, flag(a), 0, 0),
-        Event::Tabort { ra } => filled(3, thread, 0, ra, 0, 0, 0, 0),
-        Event::Tabortwc { to, ra, rb } => filled(4, thread, to, ra, rb, 0, 0, 0),
-        Event::Tabortdc { to, ra, rb } => filled(5, thread, to, ra, rb, 0, 0, 0),
-        Event::Tsr { l } => filled(6, thread, 0, 0, 0, flag(l), 0, 0),
-        Event::Tcheck { bf } => filled(7, thread, bf, 0, 0, 0, 0, 0),
-        Event::Treclaim { ra } => filled(TRECLAIM, thread, 0, ra, 0, 0, 0, 0),
-        Event::Trechkpt => filled(TRECHKPT, thread, 0, 0, 0, 0, 0, 0),
-        Event::Mtspr { spr, ra } => filled(MTSPR, thread, spr, ra, 0, 0, 0, 0),
-        Event::Mfspr { rt, spr } => filled(11, thread, spr, rt, 0, 0, 0, 0),
-        Event::Ld { rt, index } => filled(12, thread, rt, 0, 0, 0, index, 0),
-        Event::Std { ra, index } => filled(13, thread, 0, ra, 0, 0, index, 0),
-        Event::Addi { rt, ra, si } => filled(14, thread, rt, ra, 0, 0, 0, si),
-        Event::Disallowed => filled(15, thread, 0, 0, 0, 0, 0, 0),
-        Event::Interrupt => filled(16, thread, 0, 0, 0, 0, 0, 0),
-        Event::Host { pr, tm } => filled(HOST, thread, 0, 0, 0, flag(pr) + 2 * flag(tm), 0, 0),
-        Event::Rfid => filled(RFID, thread, 0, 0, 0, 0, 0, 0),
-        Event::Mtmsrd { t, s, tm, pr } => {
-            filled(MTMSRD, thread, 0, 0, 0, asked_flags(t, s, tm, pr), 0, 0)
-        }
-        Event::Lbz { rt, address } => filled(20, thread, rt, 0, 0, 0, address, 0),
-        Event::Lhz { rt, address } => filled(21, thread, rt, 0, 0, 0, address, 0),
-        Event::Lwz { rt, address } => filled(22, thread, rt, 0, 0, 0, address, 0),
-        Event::Stb { ra, address } => filled(23, thread, 0, ra, 0, 0, address, 0),
-        Event::Sth { ra, address } => filled(24, thread, 0, ra, 0, 0, address, 0),
-        Event::Stw { ra, address } => filled(25, thread, 0, ra, 0, 0, address, 0),
-        Event::Tlbie { page } => filled(TLBIE, thread, 0, 0, 0, 0, page, 0),
-    }
-}
-
-// The events whose flags have more than one bit.
-fn host_of(flags: u8) -> Event
-    ensures { result ≡ Event.Host ((flags % 2) == 1) ((flags / 2 % 2) == 1) }
-{
-    let pr = flags % 2 == 1;
-    let tm = flags / 2 % 2 == 1;
-    Event::Host { pr, tm }
-}
-
-fn mtmsrd_of(flags: u8) -> Event
-    ensures { result ≡ Event.Mtmsrd ((flags / 2 % 2) == 1) ((flags % 2) == 1) ((flags / 4 % 2) == 1) ((flags / 8 % 2) == 1) }
-{
-    let t = flags / 2 % 2 == 1;
-    let s = flags % 2 == 1;
-    let tm = flags / 4 % 2 == 1;
-    let pr = flags / 8 % 2 == 1;
-    Event::Mtmsrd { t, s, tm, pr }
-}
-
-// The event of fields of a right kind.
-pub fn event_of(f: Fields) -> Event
-    ensures { result ≡ event_of f }
-{
-    let kind = f.kind;
-    let x = f.x;
-    let ra = f.ra;
-    let rb = f.rb;
-    let index = f.index;
-    let address = index;
-    let si = f.si;
-    let flags = f.flags;
+        ..
+    } = f;
+    let one = flags == 1;
     match kind {
-        1 => Event::Tbegin { r: flags == 1 },
-        2 => Event::Tend { a: flags == 1 },
+        1 => Event::Tbegin { r: one },
+        2 => Event::Tend { a: one },
         3 => Event::Tabort { ra },
         4 => Event::Tabortwc { to: x, ra, rb },
         5 => Event::Tabortdc { to: x, ra, rb },
-        6 => Event::Tsr { l: flags == 1 },
+        6 => Event::Tsr { l: one },
         7 => Event::Tcheck { bf: x },
         8 => Event::Treclaim { ra },
         9 => Event::Trechkpt,
@@ -250,41 +329,54 @@ pub fn event_of(f: Fields) -> Event
         14 => Event::Addi { rt: x, ra, si },
         15 => Event::Disallowed,
         16 => Event::Interrupt,
-        17 => host_of(flags),
+        17 => Event::Host {
+            pr: flags % 2 == 1,
+            tm: flags / 2 % 2 == 1,
+        },
         18 => Event::Rfid,
-        19 => mtmsrd_of(flags),
-        20 => Event::Lbz { rt: x, address },
-        21 => Event::Lhz { rt: x, address },
-        22 => Event::Lwz { rt: x, address },
-        23 => Event::Stb { ra, address },
-        24 => Event::Sth { ra, address },
-        25 => Event::Stw { ra, address },
+        19 => Event::Mtmsrd {
+            t: flags / 2 % 2 == 1,
+            s: flags % 2 == 1,
+            tm: flags / 4 % 2 == 1,
+            pr: flags / 8 % 2 == 1,
+        },
+        20 => Event::Lbz {
+            rt: x,
+            address: index,
+        },
+        21 => Event::Lhz {
+            rt: x,
+            address: index,
+        },
+        22 => Event::Lwz {
+            rt: x,
+            address: index,
+        },
+        23 => Event::Stb { ra, address: index },
+        24 => Event::Sth { ra, address: index },
+        25 => Event::Stw { ra, address: index },
         _ => Event::Tlbie { page: index },
     }
 }
 
 // The number of an event's kind.
+#[tactic(auto, unfolding(crate::specs::Event::kind))]
 pub fn kind(e: Event) -> u8
     ensures { result ≡ kind e }
 {
     fields_of(0, e).kind
 }
 
-// Each used field is in range, and what a used index names in a memory of len doublewords.
+// Each used field is in range, and what a used index names in a memory of len doublewords. Joined by &, without a branch: events that
+// `refusal::refused` does not let pass at once are tested here.
 fn fields_right(r: Row, f: Fields, len: usize) -> bool
     ensures { result ≡ fields_right r f len }
 {
-    let x = r.x;
-    let ra = r.ra;
-    let rb = r.rb;
-    let index = r.index;
-    kinds::in_range(x, f.x)
-        & kinds::in_range(ra, f.ra)
-        & kinds::in_range(rb, f.rb)
-        & kinds::in_memory(index, f.index, len)
+    r.x.has(f.x) & r.ra.has(f.ra) & r.rb.has(f.rb) & r.index.in_memory(f.index, len)
 }
 
 // Number 4 is given unless the operands are right.
+#[tactic(auto, unfolding(crate::specs::Event::operands_right, crate::specs::Event::kind))]
 pub fn operands_right(e: Event, len: usize) -> bool
     ensures { result ≡ operands_right e len }
 {
@@ -292,22 +384,21 @@ pub fn operands_right(e: Event, len: usize) -> bool
     fields_right(kinds_table::row(f.kind), f, len)
 }
 
-// Number 11 is for these.
+// Number 11 is for these. It and `privileged` read two columns of the row, each with its own definition: one function of both would take a closure
+// for a field.
+#[tactic(auto, unfolding(crate::specs::Event::tm_instruction, crate::specs::Event::kind))]
 pub fn tm_instruction(e: Event) -> bool
     ensures { result ≡ tm_instruction e }
 {
     let f = fields_of(0, e);
-    let r = kinds_table::row(f.kind);
-    let when = r.tm;
-    kinds::holds(when, f.x)
+    kinds_table::row(f.kind).tm.holds(f.x)
 }
 
 // Number 12 is for these.
+#[tactic(auto, unfolding(crate::specs::Event::privileged, crate::specs::Event::kind))]
 pub fn privileged(e: Event) -> bool
     ensures { result ≡ privileged e }
 {
     let f = fields_of(0, e);
-    let r = kinds_table::row(f.kind);
-    let when = r.privileged;
-    kinds::holds(when, f.x)
+    kinds_table::row(f.kind).privileged.holds(f.x)
 }

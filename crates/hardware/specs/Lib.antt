@@ -1,3 +1,4 @@
+pub mod Inner
 pub mod Fields
 pub mod Table
 pub mod Render

@@ -60,3 +60,7 @@ level_care p l = cond (nat_le l (level_bits p)) (level_bits p) (2 ^ 12 - 1)
 unfoldable pub is_highest : ℕ → ℕ → Bool
 is_highest zero n = n == (2 ^ 4 - 1)
 is_highest (suc k) n = (n == (2 ^ (k + 5) - 1)) || is_highest k n
+
+-- bit 7 of nesting from a host's number: 0, 1, or 2 where it is free
+abbrev pub seventh_of : ℕ → Seventh
+seventh_of n = cond (n == 0) Zero (cond (n == 1) One Free)

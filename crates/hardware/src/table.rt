@@ -1,132 +1,131 @@
-// What the Power ISA text fixes for each cause, which is told by its bit.
+// What the Power ISA text fixes for each cause. The bounds are those that `thread::packed` and the sums of `render` ask for.
 ghost use Rattle.std.specs.Prelude.{◌≡◌, ◌<◌, ◌^◌};
+ghost use Rattle.hardware.specs.Inner.{bit_of};
 ghost use Rattle.hardware.specs.Table.{seven, is_free, first_byte, may_be_exact, is_exact, exact, is_imprecise, may_be_late, is_sooner, level, level_bits, level_care, is_highest};
 
-use crate::{Profile, Seventh};
+use crate::fields::{
+    ABORT, CONFLICT, DISALLOWED, FETCH, FOOTPRINT, IMPLEMENTATION, NESTING, OWN_STORE,
+    PLAIN_CONFLICT,
+};
+use crate::{Profile, Seventh, Told};
 
-fn seven(s: Seventh) -> u64
-    ensures value { result ≡ seven s }
-    ensures upper_bound { result < 2 }
-{
-    match s {
-        Seventh::Free => 1,
-        Seventh::Zero => 0,
-        Seventh::One => 1,
+impl Seventh {
+    // The register's bit, and not C's number for the case (`TryFrom<u8>`): 1 where it is free.
+    pub fn bit(self) -> u64
+        ensures value { result ≡ seven self }
+        ensures upper_bound { result < 2 }
+    {
+        match self {
+            Seventh::Zero => 0,
+            Seventh::Free | Seventh::One => 1,
+        }
+    }
+
+    pub fn is_free(self) -> bool
+        ensures { result ≡ is_free self }
+    {
+        self == Seventh::Free
     }
 }
 
-pub fn is_free(s: Seventh) -> bool
-    ensures { result ≡ is_free s }
-{
-    match s {
-        Seventh::Free => true,
-        Seventh::Zero => false,
-        Seventh::One => false,
+impl Told {
+    // Bits 0:7.
+    pub fn first_byte(self, seventh: Seventh, code: u64) -> u64
+        requires { code < 2 ^ 8 }
+        ensures value { result ≡ first_byte seventh (bit_of self) code }
+        ensures upper_bound { result < 2 ^ 8 }
+    {
+        match self {
+            Told::Failed(ABORT) => code,
+            Told::Failed(NESTING) => seventh.bit(),
+            Told::Failed(PLAIN_CONFLICT..) => 0,
+            _ => 1,
+        }
+    }
+
+    pub fn may_be_exact(self) -> bool
+        ensures { result ≡ may_be_exact (bit_of self) }
+    {
+        matches!(
+            self,
+            Told::Failed(OWN_STORE | CONFLICT | IMPLEMENTATION | FETCH)
+        )
+    }
+
+    pub fn is_exact(self) -> bool
+        ensures { result ≡ is_exact (bit_of self) }
+    {
+        matches!(self, Told::Failed(DISALLOWED | NESTING | ABORT))
+    }
+
+    // Bit 37.
+    pub fn exact(self, was: u64) -> u64
+        requires { was < 2 }
+        ensures value { result ≡ exact (bit_of self) was }
+        ensures upper_bound { result < 2 }
+    {
+        if self.may_be_exact() {
+            was
+        } else {
+            base::bit(self.is_exact())
+        }
+    }
+
+    pub fn is_imprecise(self) -> bool
+        ensures { result ≡ is_imprecise (bit_of self) }
+    {
+        matches!(self, Told::Failed(FOOTPRINT..=FETCH))
     }
 }
 
-// Bits 0:7.
-pub fn first_byte(s: Seventh, b: u64, code: u64) -> u64
-    requires { code < 2 ^ 8 }
-    ensures value { result ≡ first_byte s b code }
-    ensures upper_bound { result < 2 ^ 8 }
-{
-    if b == 31 {
-        return code;
+impl Profile {
+    pub fn may_be_late(self, told: Told) -> bool
+        ensures { result ≡ may_be_late self (bit_of told) }
+    {
+        self.late && told.is_imprecise()
     }
-    if b == 9 {
-        return seven(s);
+
+    // A nesting overflow at a lower highest level than the model's.
+    pub fn is_sooner(self, told: Told) -> bool
+        ensures { result ≡ is_sooner self (bit_of told) }
+    {
+        matches!(told, Told::Failed(NESTING)) && self.highest < base::LEVELS
     }
-    if b <= 11 {
-        return 1;
+
+    // The level's bits that count, which are also the highest level.
+    pub fn level_bits(self) -> u64
+        ensures value { result ≡ level_bits self }
+        ensures upper_bound { result < 2 ^ 12 }
+    {
+        self.highest % 0x1000
     }
-    0
-}
 
-pub fn may_be_exact(b: u64) -> bool
-    ensures { result ≡ may_be_exact b }
-{
-    ((b == 11) | (b == 13)) | ((b == 15) | (b == 16))
-}
-
-pub fn is_exact(b: u64) -> bool
-    ensures { result ≡ is_exact b }
-{
-    ((b == 8) | (b == 9)) | (b == 31)
-}
-
-// Bit 37.
-pub fn exact(b: u64, was: u64) -> u64
-    requires { was < 2 }
-    ensures value { result ≡ exact b was }
-    ensures upper_bound { result < 2 }
-{
-    if may_be_exact(b) {
-        return was;
+    // Those that are compared.
+    pub fn level_care(self, l: u64) -> u64
+        ensures value { result ≡ level_care self l }
+        ensures upper_bound { result < 2 ^ 12 }
+    {
+        let bits = self.level_bits();
+        if l <= bits { bits } else { 0xFFF }
     }
-    if is_exact(b) {
-        return 1;
+
+    pub fn level(self, told: Told, was: u64) -> u64
+        requires { was < 2 ^ 12 }
+        ensures value { result ≡ level self (bit_of told) was }
+        ensures upper_bound { result < 2 ^ 12 }
+    {
+        if matches!(told, Told::Failed(NESTING)) {
+            self.level_bits()
+        } else {
+            was
+        }
     }
-    0
-}
-
-pub fn is_imprecise(b: u64) -> bool
-    ensures { result ≡ is_imprecise b }
-{
-    (10 <= b) & (b <= 16)
-}
-
-pub fn may_be_late(p: Profile, b: u64) -> bool
-    ensures { result ≡ may_be_late p b }
-{
-    p.late & is_imprecise(b)
-}
-
-// A nesting overflow at a lower highest level than the model's.
-pub fn is_sooner(p: Profile, b: u64) -> bool
-    ensures { result ≡ is_sooner p b }
-{
-    (b == 9) & (p.highest < base::LEVELS)
-}
-
-// The level's bits that count, which are also the highest level.
-pub fn level_bits(p: Profile) -> u64
-    ensures value { result ≡ level_bits p }
-    ensures upper_bound { result < 2 ^ 12 }
-{
-    p.highest % 0x1000
-}
-
-// Those that are compared.
-pub fn level_care(p: Profile, l: u64) -> u64
-    ensures value { result ≡ level_care p l }
-    ensures upper_bound { result < 2 ^ 12 }
-{
-    let bits = level_bits(p);
-    if l <= bits {
-        return bits;
-    }
-    0xFFF
-}
-
-pub fn level(p: Profile, b: u64, was: u64) -> u64
-    requires { was < 2 ^ 12 }
-    ensures value { result ≡ level p b was }
-    ensures upper_bound { result < 2 ^ 12 }
-{
-    if b == 9 {
-        return level_bits(p);
-    }
-    was
 }
 
 // 15, 31 and so on to 4,095.
+#[tactic(auto, unfolding(crate::specs::Table::is_highest))]
 pub fn is_highest(n: u64) -> bool
     ensures { result ≡ is_highest 8 n }
 {
-    (n == 4095)
-        | ((n == 2047)
-            | ((n == 1023)
-                | ((n == 511)
-                    | ((n == 255) | ((n == 127) | ((n == 63) | ((n == 31) | (n == 15))))))))
+    matches!(n, 15 | 31 | 63 | 127 | 255 | 511 | 1023 | 2047 | 4095)
 }

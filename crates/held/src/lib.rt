@@ -1,230 +1,168 @@
 // What a transaction holds in a valid machine: places, indices, lines, marks (rules V2, V10 to V12, V15), for any value of the struct.
 #![tactic(auto)]
 
-ghost use Rattle.std.specs.Prelude.{◌≡◌, not, ℕ, ◌+◌, ◌<◌, ◌≤◌};
+ghost use Rattle.std.specs.Prelude.{◌≡◌, not, ℕ, ◌<◌, ◌≤◌, ◌==◌, length, take};
+ghost use Rattle.std.specs.List.{list_all};
 ghost use Rattle.base.specs.Limits.{lines, most_memory, most_places};
+ghost use Rattle.lines.specs.Inner.{same};
 ghost use Rattle.lines.specs.Lines.{has, with};
-ghost use Rattle.held.specs.Inner.{Seen};
-ghost use Rattle.machine.specs.Valid.{place_right, unused_zero, no_line, holds_nothing, indices_inside, lines_inside, unlike, distinct, logs_line, writes_logged, marked_right, marks_right, held_right};
+ghost use Rattle.machine.specs.Valid.{unused_zero, no_line, holds_nothing, indices_inside, lines_inside, distinct, logs_line, writes_logged, marked_right, marks_right, held_right};
 
-use base::{LINE, LINES, MEMORY, PLACES, WORDS};
+use base::{LINE, LINES, MEMORY, PLACES};
 use lines::LineSet;
 use transaction::{Entry, Transaction};
 
 // Words of a set of doublewords, of 64 each.
 const SEEN: usize = MEMORY / 64;
 
-// A place of the log is used, or zero.
-fn place_right(e: Entry, n: usize, count: usize) -> bool
-    ensures { result ≡ place_right e n count }
-{
-    if n < count {
-        return true;
-    }
-    if e.index != 0 {
-        return false;
-    }
-    if e.marks != 0 {
-        return false;
-    }
-    e.value == 0
-}
+// A place of the log that is not used.
+const UNUSED: Entry = Entry {
+    index: 0,
+    marks: 0,
+    value: 0,
+};
 
 // Unused log places are zero.
-pub fn unused_zero(x: Transaction) -> bool
-    ensures { result ≡ unused_zero x }
+pub fn unused_zero(x: &Transaction) -> bool
+    ensures { result ≡ unused_zero x.now }
 {
-    let count = x.count;
-    if PLACES < count {
-        return false;
-    }
-    let mut n = PLACES;
-    while 0 < n {
-        n -= 1;
-        let e = x.log[n];
-        if !place_right(e, n, count) {
-            return false;
-        }
-    }
-    true
+    x.count <= PLACES && x.log[x.count..].iter().all(|e| *e == UNUSED)
 }
 
-fn no_line(s: LineSet) -> bool
-    ensures { result ≡ no_line s }
+// By words, as `no_line` is defined.
+fn no_line(s: &LineSet) -> bool
+    ensures { result ≡ no_line s.now }
 {
-    let mut k = WORDS;
-    while 0 < k {
-        k -= 1;
-        if s.words[k] != 0 {
-            return false;
-        }
-    }
-    true
+    s.words.iter().all(|word| *word == 0)
 }
 
-// Sets and log are empty.
-pub fn holds_nothing(x: Transaction) -> bool
-    ensures { result ≡ holds_nothing x }
+// Sets and log are empty. No `==` with an empty one: the log's places are `unused_zero`'s, as `holds_nothing` is defined.
+#[tactic(auto, unfolding(machine::specs::Valid::holds_nothing))]
+pub fn holds_nothing(x: &Transaction) -> bool
+    ensures { result ≡ holds_nothing x.now }
 {
-    let r = x.reads;
-    if !no_line(r) {
-        return false;
-    }
-    let w = x.writes;
-    if !no_line(w) {
-        return false;
-    }
-    x.count == 0
+    no_line(&x.reads) && no_line(&x.writes) && x.count == 0
+}
+
+// The used places of the log. It and those that call it ask for the count: `Transaction` says why no invariant does.
+fn used(x: &Transaction) -> &[Entry]
+    requires { x.now.count ≤ most_places }
+    ensures value { result.now ≡ take x.now.count x.now.log }
+    ensures len { length result.now ≡ x.now.count }
+{
+    &x.log[..x.count]
 }
 
 // All indices lie in memory.
-fn indices_inside(x: Transaction, len: usize) -> bool
-    requires { x.count ≤ most_places }
-    ensures { result ≡ indices_inside x len }
+fn indices_inside(x: &Transaction, len: usize) -> bool
+    requires { x.now.count ≤ most_places }
+    ensures { result ≡ indices_inside x.now len }
 {
-    let mut n = x.count;
-    while 0 < n {
-        n -= 1;
-        let e = x.log[n];
-        if len <= e.index as usize {
-            return false;
-        }
-    }
-    true
+    used(x).iter().all(|e| (e.index as usize) < len)
 }
 
 // All lines lie in memory: none that begins at its end or past it is in a set.
-fn lines_inside(x: Transaction, len: usize) -> bool
-    ensures { result ≡ lines_inside x len }
+fn lines_inside(x: &Transaction, len: usize) -> bool
+    ensures { result ≡ lines_inside x.now len }
 {
-    let r = x.reads;
-    let w = x.writes;
-    lines::ends(r, w, len / LINE + (len % LINE + LINE - 1) / LINE)
+    x.reads.ends(&x.writes, len.div_ceil(LINE))
 }
 
-// The index at a place is none of those before it.
-fn unlike(x: Transaction, n: usize) -> bool
-    requires { n < most_places }
-    ensures { result ≡ unlike x n }
-{
-    let e = x.log[n];
-    let mut k = n;
-    while 0 < k {
-        k -= 1;
-        let f = x.log[k];
-        if f.index == e.index {
-            return false;
-        }
-    }
-    true
-}
-
-// Whether the doubleword was in the set; from now on it is.
-fn marked(ws: &mut [u64; SEEN], d: usize) -> bool
+// One doubleword more in the set: whether it was not there before.
+fn insert(seen: &mut [u64; SEEN], d: usize) -> bool
     requires { d < most_memory }
-    ensures value { result ≡ has (record { words = ws.old }) d }
-    ensures ws_after { record { words = ws.new } ≡ with (record { words = ws.old }) d }
+    ensures value { result ≡ not (has (record { words = seen.old }) d) }
+    ensures seen_after { record { words = seen.new } ≡ with (record { words = seen.old }) d }
 {
-    let k = d / 64;
-    let w = ws[k];
-    ws[k] = w | (1 << (d % 64));
-    (w >> (d % 64)) % 2 == 1
+    let word = seen[d / 64];
+    seen[d / 64] = word | 1 << (d % 64);
+    word >> (d % 64) & 1 == 0
 }
 
-// Log indices are distinct. Indices past the largest memory are compared one by one: no valid log has one.
-fn distinct(x: Transaction) -> bool
-    requires { x.count ≤ most_places }
-    ensures { result ≡ distinct x }
+// None of the places has the index.
+fn is_unlike(places: &[Entry], index: u32) -> bool
+    ensures { result ≡ list_all (λ e. not (e.index == index)) places.now }
 {
-    let mut ws = [0; SEEN];
-    let n = x.count;
-    for i in 0..n {
-        let e = x.log[i];
+    places.iter().all(|e| e.index != index)
+}
+
+// Log indices are distinct. Indices past the largest memory are compared one by one: no valid log has one. A loop, since the set grows as it goes;
+// an array of bits, since there is no heap.
+fn distinct(x: &Transaction) -> bool
+    requires { x.now.count ≤ most_places }
+    ensures { result ≡ distinct x.now }
+{
+    let mut seen = [0; SEEN];
+    let used = used(x);
+    for (k, e) in used.iter().enumerate() {
         let d = e.index as usize;
-        if d < MEMORY {
-            if marked(&mut ws, d) {
-                return false;
-            }
+        let fresh = if d < MEMORY {
+            insert(&mut seen, d)
         } else {
-            if !unlike(x, i) {
-                return false;
-            }
+            is_unlike(&used[..k], e.index)
+        };
+        if !fresh {
+            return false;
         }
     }
     true
 }
 
 // The lines that the log has an index in. A line past the last is in no set.
-fn logged(x: Transaction) -> LineSet
-    requires { x.count ≤ most_places }
-    ensures { (l : ℕ) → l < lines → has result l ≡ logs_line x l }
+fn logged(x: &Transaction) -> LineSet
+    requires { x.now.count ≤ most_places }
+    ensures { (l : ℕ) → l < lines → has result l ≡ logs_line x.now l }
 {
-    let mut s = lines::empty();
-    let n = x.count;
-    for i in 0..n {
-        let e = x.log[i];
+    let mut s = LineSet::empty();
+    for e in used(x) {
         let l = e.index as usize / LINE;
         if l < LINES {
-            s = lines::with(s, l);
+            s.insert(l);
         }
     }
     s
 }
 
-// The lines of the write set are those that the log has an index in.
-fn writes_logged(x: Transaction) -> bool
-    requires { x.count ≤ most_places }
-    ensures { result ≡ writes_logged x }
+// Two sets hold the same lines. By value: of words behind a reference no bound is known at the end, and the proof did not close.
+fn same(a: LineSet, b: LineSet) -> bool
+    ensures { result ≡ same a b }
 {
-    let w = x.writes;
-    let s = logged(x);
-    lines::same(w, s)
+    a == b
+}
+
+// The lines of the write set are those that the log has an index in.
+fn writes_logged(x: &Transaction) -> bool
+    requires { x.now.count ≤ most_places }
+    ensures { result ≡ writes_logged x.now }
+{
+    same(x.writes, logged(x))
 }
 
 // A used place has a mark, and its bytes are zero where they have none.
-fn marked_right(e: Entry) -> bool
-    ensures { result ≡ marked_right e }
+#[tactic(auto, unfolding(machine::specs::Valid::marked_right))]
+fn marked_right(e: &Entry) -> bool
+    ensures { result ≡ marked_right e.now }
 {
-    if e.marks == 0 {
-        return false;
-    }
-    doubleword::only_marked(e.marks, e.value)
+    e.marks != 0 && doubleword::only_marked(e.marks, e.value)
 }
 
 // All used places are so.
-fn marks_right(x: Transaction) -> bool
-    requires { x.count ≤ most_places }
-    ensures { result ≡ marks_right x }
+fn marks_right(x: &Transaction) -> bool
+    requires { x.now.count ≤ most_places }
+    ensures { result ≡ marks_right x.now }
 {
-    let mut n = x.count;
-    while 0 < n {
-        n -= 1;
-        let e = x.log[n];
-        if !marked_right(e) {
-            return false;
-        }
-    }
-    true
+    used(x).iter().all(marked_right)
 }
 
 // What a transaction holds is right: places, indices, lines, marks.
-pub fn held_right(x: Transaction, len: usize) -> bool
-    ensures { result ≡ held_right x len }
+#[tactic(auto, using(machine::proofs::Laws::unused_count), unfolding(machine::specs::Valid::held_right))]
+pub fn held_right(x: &Transaction, len: usize) -> bool
+    ensures { result ≡ held_right x.now len }
 {
-    if !unused_zero(x) {
-        return false;
-    }
-    if !indices_inside(x, len) {
-        return false;
-    }
-    if !lines_inside(x, len) {
-        return false;
-    }
-    if !distinct(x) {
-        return false;
-    }
-    if !writes_logged(x) {
-        return false;
-    }
-    marks_right(x)
+    unused_zero(x)
+        && indices_inside(x, len)
+        && lines_inside(x, len)
+        && distinct(x)
+        && writes_logged(x)
+        && marks_right(x)
 }

@@ -5,68 +5,67 @@ ghost use Rattle.host_rules.specs.Sessions.{open_raw, feed, close};
 
 use crate::entries;
 use crossing::RawMachine;
-use host_parts::{raw_session, session_of};
 use host_rules::{RawEnded, RawFed, RawSession};
-use session_rules::HELD;
+use machine::Machine;
+use session_rules::{HELD, Session};
 
 // A session on a machine; where it is refused its answer is the number.
+#[tactic(auto, unfolding(host_rules::specs::Sessions::open_raw))]
 pub fn naszeptan_open(m: RawMachine, len: usize) -> RawSession
     ensures { result ≡ open_raw m len }
 {
-    if crossing::right(m) {
-        return raw_session(session::opened(crossing::machine_of(m), len));
-    }
-    RawSession {
-        machine: m,
-        count: 0,
-        held: 0,
-        answer: entries::naszeptan_valid(m, len),
-        bytes: [0; HELD],
+    match Machine::try_from(&m) {
+        Ok(machine) => RawSession::from(&session::opened(machine, len)),
+        Err(_) => RawSession {
+            machine: m,
+            count: 0,
+            held: 0,
+            answer: entries::naszeptan_valid(m, len),
+            bytes: [0; HELD],
+        },
     }
 }
 
 // A piece of the tape. The answers of the records that it finishes go to the buffer, as far as it has places.
+#[tactic(auto, unfolding(host_rules::specs::Sessions::feed))]
 pub fn naszeptan_feed(s: RawSession, mem: &mut [u64], piece: &[u8], answers: &mut [u8]) -> RawFed
     ensures value { result ≡ (feed s mem.old piece.now).fed }
     ensures mem_after { mem.new ≡ (feed s mem.old piece.now).memory }
     ensures answers_after { answers.new ≡ sets answers.old 0 (feed s mem.old piece.now).answers }
 {
-    let m = s.machine;
-    if !crossing::right(m) {
+    if !s.machine.is_right() {
         return RawFed {
-            answer: entries::naszeptan_valid(m, mem.len()),
+            answer: entries::naszeptan_valid(s.machine, mem.len()),
             finished: 0,
             session: s,
         };
     }
-    let fed = session::feed(session_of(s), mem, piece, answers);
-    let t = fed.session;
+    let fed = session::feed(Session::from(&s), mem, piece, answers);
     RawFed {
         answer: fed.answer,
         finished: fed.finished,
-        session: raw_session(t),
+        session: RawSession::from(&fed.session),
     }
 }
 
 // The end of the tape.
+#[tactic(auto, unfolding(host_rules::specs::Sessions::close))]
 pub fn naszeptan_close(s: RawSession, len: usize) -> RawEnded
     ensures { result ≡ close s len }
 {
-    let m = s.machine;
-    if !crossing::right(m) {
+    if !s.machine.is_right() {
         return RawEnded {
-            answer: entries::naszeptan_valid(m, len),
+            answer: entries::naszeptan_valid(s.machine, len),
             count: 0,
             index: 0,
-            machine: m,
+            machine: s.machine,
         };
     }
-    let e = session::close(session_of(s), len);
-    let n = e.machine;
+    let ended = session::close(Session::from(&s), len);
     RawEnded {
-        answer: e.answer,
-        count: e.count,
-        index: e.index,
-        machine: crossing::raw_machine(n),
+        answer: ended.answer,
+        count: ended.count,
+        index: ended.index,
+        machine: RawMachine::from(&ended.machine),
     }
 }

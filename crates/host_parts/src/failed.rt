@@ -1,55 +1,31 @@
 // Which threads failed in an event (rule H8). The answer tells only of the event's own thread.
-ghost use Rattle.std.specs.Prelude.{◌≡◌, not, ◌&&◌, ◌||◌, ◌≤◌};
+ghost use Rattle.std.specs.Prelude.{◌≡◌, ◌<◌, ◌≤◌};
 ghost use Rattle.base.specs.Below.{bit};
-ghost use Rattle.thread.specs.Thread.{is_live};
-ghost use Rattle.host_rules.specs.Failed.{failed};
+ghost use Rattle.base.specs.Limits.{most_threads};
+ghost use Rattle.host_rules.specs.Failed.{fails, failed};
 
 use base::answer;
 use event::{Fields, TEND};
 use machine::Machine;
 use step_rules::Done;
-use thread::{Control, State};
 
-// The transaction is live: in T, and in S until it is doomed.
-fn live(k: Control) -> bool
-    ensures { result ≡ is_live k.msr.state k.msr.doomed }
-{
-    let m = k.msr;
-    let s = m.state;
-    match s {
-        State::N => false,
-        State::T => true,
-        State::S => !m.doomed,
-    }
-}
-
-// One thread's bit, by its control registers before and after.
-fn fails(own: bool, handled: bool, tend: bool, before: Control, after: Control) -> u8
-    ensures value { result ≡ bit (own && handled || is_live before.msr.state before.msr.doomed && not (is_live after.msr.state after.msr.doomed) && not (own && tend)) }
+// Thread v failed: its own event handled its failure; or its transaction ended, and not by its own tend. By the number in
+// `Done`, as `fails` is defined.
+fn fails(f: Fields, m: &Machine, d: &Done, v: usize) -> u8
+    requires { v < most_threads }
+    ensures value { result ≡ bit (fails f m.now d.now v) }
     ensures upper_bound { result ≤ 1 }
 {
-    let failed = (own & handled) | (live(before) & !live(after) & !(own & tend));
-    base::bit(failed) as u8
+    let own = usize::from(f.thread) == v;
+    let handled = d.answer == answer::HANDLED;
+    let ended = m.threads[v].is_live() && !d.machine.threads[v].is_live();
+    u8::from((own && handled) || (ended && !(own && f.kind == TEND)))
 }
 
-// The mask of a step's outcome.
-pub fn failed(f: Fields, m: Machine, d: Done) -> u8
-    ensures { result ≡ failed f m d }
+// The mask of a step's outcome, a bit for each thread, that of thread 0 lowest. Four terms, as `failed` is defined.
+#[tactic(auto, unfolding(host_rules::specs::Failed::failed))]
+pub fn failed(f: Fields, m: &Machine, d: &Done) -> u8
+    ensures { result ≡ failed f m.now d.now }
 {
-    let w = f.thread;
-    let handled = d.answer == answer::HANDLED;
-    let tend = f.kind == TEND;
-    let n = d.machine;
-    let a0 = m.threads[0];
-    let b0 = n.threads[0];
-    let a1 = m.threads[1];
-    let b1 = n.threads[1];
-    let a2 = m.threads[2];
-    let b2 = n.threads[2];
-    let a3 = m.threads[3];
-    let b3 = n.threads[3];
-    fails(w == 0, handled, tend, a0.control, b0.control)
-        + 2 * fails(w == 1, handled, tend, a1.control, b1.control)
-        + 4 * fails(w == 2, handled, tend, a2.control, b2.control)
-        + 8 * fails(w == 3, handled, tend, a3.control, b3.control)
+    fails(f, m, d, 0) + 2 * fails(f, m, d, 1) + 4 * fails(f, m, d, 2) + 8 * fails(f, m, d, 3)
 }

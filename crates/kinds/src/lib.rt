@@ -4,9 +4,10 @@
 ghost use Rattle.std.specs.Prelude.{◌≡◌, ◌<◌};
 ghost use Rattle.kinds.specs.Rows.{used, tm_spr, srr, in_range, spans, addressed, in_memory, holds};
 
-use base::{CR_FIELDS, DOUBLEWORD_BYTES, GPRS};
+use base::{CR_FIELDS, DOUBLEWORD_BYTES, GPRS, PAGE};
 
-// What a kind uses a field for.
+// What a kind uses a field for. A case for nothing, and no Option, here and in `Span`: `used`, `in_range`, `spans` and `in_memory` of specs/Rows
+// have one, and `rows` is written with it.
 #[derive(Clone, Copy)]
 pub enum Use {
     No,
@@ -49,61 +50,44 @@ pub struct Row {
     pub privileged: When,
 }
 
-// Whether the field is used at all: one that is not is 0 in a record.
-pub fn used(u: Use) -> bool
-    ensures { result ≡ used u }
-{
-    match u {
-        Use::No => false,
-        Use::Gpr => true,
-        Use::To => true,
-        Use::Bf => true,
-        Use::Spr => true,
-    }
-}
-
-// SPR 128 to 131: the failure registers.
+// SPR 128 to 131: the failure registers. It and `srr` are two ranges, each of its own rule: one function would take both bounds.
 fn tm_spr(v: u8) -> bool
     ensures { result ≡ tm_spr v }
 {
-    (128 <= v) & (v <= 131)
+    matches!(v, 128..=131)
 }
 
 // SPR 26 and 27: SRR0 and SRR1.
 fn srr(v: u8) -> bool
     ensures { result ≡ srr v }
 {
-    (26 <= v) & (v <= 27)
+    matches!(v, 26..=27)
 }
 
-// A field as its use wants it.
-pub fn in_range(u: Use, v: u8) -> bool
-    ensures { result ≡ in_range u v }
-{
-    match u {
-        Use::No => true,
-        Use::Gpr => (v as usize) < GPRS,
-        Use::To => v < 32,
-        Use::Bf => v as usize <= CR_FIELDS,
-        Use::Spr => srr(v) | tm_spr(v),
+impl Use {
+    // Whether the field is used at all: one that is not is 0 in a record.
+    pub fn is_used(self) -> bool
+        ensures { result ≡ used self }
+    {
+        !matches!(self, Use::No)
+    }
+
+    // A field as its use wants it.
+    pub fn has(self, v: u8) -> bool
+        ensures { result ≡ in_range self v }
+    {
+        match self {
+            Use::No => true,
+            Use::Gpr => (v as usize) < GPRS,
+            Use::To => v < 32,
+            Use::Bf => v as usize <= CR_FIELDS,
+            Use::Spr => srr(v) | tm_spr(v),
+        }
     }
 }
 
-// Whether the index field is used.
-pub fn spans(s: Span) -> bool
-    ensures { result ≡ spans s }
-{
-    match s {
-        Span::Without => false,
-        Span::Doubleword => true,
-        Span::Byte => true,
-        Span::Halfword => true,
-        Span::Word => true,
-        Span::Page => true,
-    }
-}
-
-// A byte address in a memory of len doublewords is a multiple of the access's width. Eight times len could wrap, so the address is divided.
+// A byte address in a memory of len doublewords is a multiple of the access's width. Eight times len could wrap, so the address is divided. The
+// width is above 0, as the definition divides by it.
 fn addressed(width: u32, i: u32, len: usize) -> bool
     requires { 0 < width }
     ensures { result ≡ addressed width i len }
@@ -111,28 +95,39 @@ fn addressed(width: u32, i: u32, len: usize) -> bool
     (i % width == 0) & ((i as usize) / DOUBLEWORD_BYTES < len)
 }
 
-// A doubleword is in a memory of len doublewords, and so are the bytes at an address, and the first line of a page.
-pub fn in_memory(s: Span, i: u32, len: usize) -> bool
-    ensures { result ≡ in_memory s i len }
-{
-    match s {
-        Span::Without => true,
-        Span::Doubleword => (i as usize) < len,
-        Span::Byte => addressed(1, i, len),
-        Span::Halfword => addressed(2, i, len),
-        Span::Word => addressed(4, i, len),
-        Span::Page => base::PAGE * (i as usize) < len,
+impl Span {
+    // Whether the index field is used. As of `Use`: one line for each enum.
+    pub fn is_used(self) -> bool
+        ensures { result ≡ spans self }
+    {
+        !matches!(self, Span::Without)
+    }
+
+    // A doubleword is in a memory of len doublewords, and so are the bytes at an address, and the first line of a page.
+    pub fn in_memory(self, i: u32, len: usize) -> bool
+        ensures { result ≡ in_memory self i len }
+    {
+        match self {
+            Span::Without => true,
+            Span::Doubleword => (i as usize) < len,
+            Span::Byte => addressed(1, i, len),
+            Span::Halfword => addressed(2, i, len),
+            Span::Word => addressed(4, i, len),
+            Span::Page => PAGE * (i as usize) < len,
+        }
     }
 }
 
-// Whether it is so with X.
-pub fn holds(w: When, x: u8) -> bool
-    ensures { result ≡ holds w x }
-{
-    match w {
-        When::Never => false,
-        When::Always => true,
-        When::TmSpr => tm_spr(x),
-        When::Srr => srr(x),
+impl When {
+    // Whether it is so with X: a case for each, as `holds` is defined.
+    pub fn holds(self, x: u8) -> bool
+        ensures { result ≡ holds self x }
+    {
+        match self {
+            When::Never => false,
+            When::Always => true,
+            When::TmSpr => tm_spr(x),
+            When::Srr => srr(x),
+        }
     }
 }

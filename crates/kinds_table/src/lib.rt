@@ -3,134 +3,118 @@
 
 ghost use Rattle.std.specs.Prelude.{◌≡◌, false};
 ghost use Rattle.kinds.specs.Rows.{line, row};
-ghost use Rattle.kinds.specs.declared.Use.TheVariants.{No};
-ghost use Rattle.kinds.specs.declared.Span.TheVariants.{Without};
-ghost use Rattle.kinds.specs.declared.When.TheVariants.{Never, Always};
+ghost use Rattle.kinds.specs.declared.Use.TheVariants.{No, Gpr};
+ghost use Rattle.kinds.specs.declared.When.TheVariants.{Never};
 
 use kinds::{Row, Span, Use, When};
 
-// A row by its values, in the table's order.
-fn line(
-    x: Use,
-    ra: Use,
-    rb: Use,
-    flags: u8,
-    index: Span,
-    si: bool,
-    tm: When,
-    privileged: When,
-) -> Row
-    ensures { result ≡ line x ra rb flags index si tm privileged }
+// The row of a kind that uses no field. A line of the table names what sets its kind apart.
+const BARE: Row = Row {
+    x: Use::No,
+    ra: Use::No,
+    rb: Use::No,
+    flags: 0,
+    index: Span::Without,
+    si: false,
+    tm: When::Never,
+    privileged: When::Never,
+};
+
+// That of a TM instruction.
+const TM: Row = Row {
+    x: Use::No,
+    ra: Use::No,
+    rb: Use::No,
+    flags: 0,
+    index: Span::Without,
+    si: false,
+    tm: When::Always,
+    privileged: When::Never,
+};
+
+// A load has its register in X, a store in RA; the index says what of memory. Two functions: one would have to take the uses of both fields.
+// One line each: a parameter for the field would be a switch.
+fn load(index: Span) -> Row
+    ensures { result ≡ line Gpr No No 0 index false Never Never }
 {
     Row {
-        x,
-        ra,
-        rb,
-        flags,
+        x: Use::Gpr,
         index,
-        si,
-        tm,
-        privileged,
+        ..BARE
     }
 }
 
-// A TM instruction's row: X, RA, RB, the largest flags, and when it is privileged.
-fn tm_line(x: Use, ra: Use, rb: Use, flags: u8, privileged: When) -> Row
-    ensures { result ≡ line x ra rb flags Without false Always privileged }
+fn store(index: Span) -> Row
+    ensures { result ≡ line No Gpr No 0 index false Never Never }
 {
-    line(
-        x,
-        ra,
-        rb,
-        flags,
-        Span::Without,
-        false,
-        When::Always,
-        privileged,
-    )
+    Row {
+        ra: Use::Gpr,
+        index,
+        ..BARE
+    }
 }
 
-// A load's or a store's row: the register that it loads or stores, and what its index names.
-fn access_line(x: Use, ra: Use, index: Span) -> Row
-    ensures { result ≡ line x ra No 0 index false Never Never }
-{
-    line(x, ra, Use::No, 0, index, false, When::Never, When::Never)
-}
-
-// The row of a kind that names no register and no place: the largest flags, and when it is privileged.
-fn bare_line(flags: u8, privileged: When) -> Row
-    ensures { result ≡ line No No No flags Without false Never privileged }
-{
-    line(
-        Use::No,
-        Use::No,
-        Use::No,
-        flags,
-        Span::Without,
-        false,
-        When::Never,
-        privileged,
-    )
-}
-
-// Short names for the table of rows.
-const NO: Use = Use::No;
-
-const GPR: Use = Use::Gpr;
-
-const TO: Use = Use::To;
-
-const BF: Use = Use::Bf;
-
-const SPR: Use = Use::Spr;
-
-const WITHOUT: Span = Span::Without;
-
-const DOUBLEWORD: Span = Span::Doubleword;
-
-const BYTE: Span = Span::Byte;
-
-const HALFWORD: Span = Span::Halfword;
-
-const WORD: Span = Span::Word;
-
-const PAGE: Span = Span::Page;
-
-const NEVER: When = When::Never;
-
-const ALWAYS: When = When::Always;
-
-const TM_SPR: When = When::TmSpr;
-
-const SRR: When = When::Srr;
-
-// The row of a kind. A number that is no kind uses nothing.
+// The row of a kind. A number that is no kind uses nothing. By the number, which stands on the tape: `row` is defined of any.
+#[tactic(auto, unfolding(kinds::specs::Rows::row, kinds::specs::Rows::rows))]
 pub fn row(kind: u8) -> Row
     ensures { result ≡ row kind }
 {
     match kind {
-        1..=2 => tm_line(NO, NO, NO, 1, NEVER),
-        3 => tm_line(NO, GPR, NO, 0, NEVER),
-        4..=5 => tm_line(TO, GPR, GPR, 0, NEVER),
-        6 => tm_line(NO, NO, NO, 1, NEVER),
-        7 => tm_line(BF, NO, NO, 0, NEVER),
-        8 => tm_line(NO, GPR, NO, 0, ALWAYS),
-        9 => tm_line(NO, NO, NO, 0, ALWAYS),
-        10..=11 => line(SPR, GPR, NO, 0, WITHOUT, false, TM_SPR, SRR),
-        12 => access_line(GPR, NO, DOUBLEWORD),
-        13 => access_line(NO, GPR, DOUBLEWORD),
-        14 => line(GPR, GPR, NO, 0, WITHOUT, true, NEVER, NEVER),
-        15..=16 => bare_line(0, NEVER),
-        17 => bare_line(3, NEVER),
-        18 => bare_line(0, ALWAYS),
-        19 => bare_line(15, ALWAYS),
-        20 => access_line(GPR, NO, BYTE),
-        21 => access_line(GPR, NO, HALFWORD),
-        22 => access_line(GPR, NO, WORD),
-        23 => access_line(NO, GPR, BYTE),
-        24 => access_line(NO, GPR, HALFWORD),
-        25 => access_line(NO, GPR, WORD),
-        26 => line(NO, NO, NO, 0, PAGE, false, NEVER, ALWAYS),
-        _ => bare_line(0, NEVER),
+        1..=2 | 6 => Row { flags: 1, ..TM },
+        3 => Row { ra: Use::Gpr, ..TM },
+        4..=5 => Row {
+            x: Use::To,
+            ra: Use::Gpr,
+            rb: Use::Gpr,
+            ..TM
+        },
+        7 => Row { x: Use::Bf, ..TM },
+        8 => Row {
+            ra: Use::Gpr,
+            privileged: When::Always,
+            ..TM
+        },
+        9 => Row {
+            privileged: When::Always,
+            ..TM
+        },
+        10..=11 => Row {
+            x: Use::Spr,
+            ra: Use::Gpr,
+            tm: When::TmSpr,
+            privileged: When::Srr,
+            ..BARE
+        },
+        12 => load(Span::Doubleword),
+        13 => store(Span::Doubleword),
+        14 => Row {
+            x: Use::Gpr,
+            ra: Use::Gpr,
+            si: true,
+            ..BARE
+        },
+        15..=16 => BARE,
+        17 => Row { flags: 3, ..BARE },
+        18 => Row {
+            privileged: When::Always,
+            ..BARE
+        },
+        19 => Row {
+            flags: 15,
+            privileged: When::Always,
+            ..BARE
+        },
+        20 => load(Span::Byte),
+        21 => load(Span::Halfword),
+        22 => load(Span::Word),
+        23 => store(Span::Byte),
+        24 => store(Span::Halfword),
+        25 => store(Span::Word),
+        26 => Row {
+            index: Span::Page,
+            privileged: When::Always,
+            ..BARE
+        },
+        _ => BARE,
     }
 }

@@ -20,8 +20,7 @@ use Rattle.transaction.specs.Transaction.{entry, line, lookup, loaded, put, writ
 use Rattle.transaction.proofs.Laws.{lookup_below, lookup_there, load_store, Apart, commit_at}
 use Rattle.transaction.specs.declared.Entry.{Entry}
 use Rattle.transaction.specs.declared.Cause.TheVariants.{Footprint, OwnStore}
-use Rattle.transaction.specs.declared.Found.{Found}
-use Rattle.transaction.specs.declared.Found.TheVariants.{At, Absent}
+use Rattle.std.specs.Prelude.{Option, Some, None}
 use Rattle.transaction.specs.declared.Touch.TheVariants.{Untouched, Store}
 use Rattle.transaction.specs.declared.Transaction.{Transaction}
 use Rattle.transaction.specs.declared.Write.TheVariants.{Unwritten, Bytes, Log}
@@ -99,7 +98,7 @@ put_at mem i m y d h = go (eqb i d) refl
     go false p = get_or-set_other mem i d _ 0 (λ q. eqb-false i d p (sym q))
 
 -- a transaction that does not touch a doubleword's line has no place for it (rule V12)
-unlogged : (x : Transaction) (d : ℕ) → writes_logged x ≡ true → line d < lines → transaction.touches x (line d) ≡ false → lookup x d ≡ Absent
+unlogged : (x : Transaction) (d : ℕ) → writes_logged x ≡ true → line d < lines → transaction.touches x (line d) ≡ false → lookup x d ≡ None
 unfolding writes_logged line_logged logs_line
 unlogged x d g l n = go (lookup x d) refl
   where
@@ -111,25 +110,25 @@ unlogged x d g l n = go (lookup x d) refl
     none : logs_line x (line d) ≡ false
     none = same (lineset.has x.writes (line d)) (logs_line x (line d)) (all_at (line_logged x) lines (line d) g l) (neither (lineset.has x.reads (line d)) (lineset.has x.writes (line d)) n).1
 
-    go : (f : Found) → lookup x d ≡ f → f ≡ Absent
-    go Absent p = refl
-    go (At k) p =
+    go : (f : Option ℕ) → lookup x d ≡ f → f ≡ None
+    go None p = refl
+    go (Some k) p =
         absurd (true≢false (sym (eq-eqb _ _ (ap line (lookup_there x.log d x.count p)))
         ∙ any_false_at (λ n. eqb (line (entry x.log n).index) (line d)) x.count k none (lookup_below x.log d x.count p)))
 
 -- and sees memory there
-unlogged_sees : (t : Thread) (mem : List ℕ) (b : ℕ) → lookup t.transaction (doubleword_of b) ≡ Absent → sees t mem b ≡ at mem b
+unlogged_sees : (t : Thread) (mem : List ℕ) (b : ℕ) → lookup t.transaction (doubleword_of b) ≡ None → sees t mem b ≡ at mem b
 unfolding loaded
-unlogged_sees t mem b e = ap (λ (f : Found). byte (loaded t.transaction.log mem f (doubleword_of b)) (lowest 1 b)) e
+unlogged_sees t mem b e = ap (λ (f : Option ℕ). byte (loaded t.transaction.log mem f (doubleword_of b)) (lowest 1 b)) e
 
 -- no two places of a valid log are of one doubleword (rule V11)
 places_apart : (x : Transaction) → distinct x ≡ true → Apart x.log x.count
 unfolding distinct unlike
 places_apart x h k l = go (transaction.lookup_in x.log (entry x.log k).index k) refl
   where
-    go : (f : Found) → transaction.lookup_in x.log (entry x.log k).index k ≡ f → f ≡ Absent
-    go Absent p = refl
-    go (At j) p =
+    go : (f : Option ℕ) → transaction.lookup_in x.log (entry x.log k).index k ≡ f → f ≡ None
+    go None p = refl
+    go (Some j) p =
         absurd (eqb-false _ _
         (not-true (eqb (entry x.log j).index (entry x.log k).index)
         (all_at (λ i. not (eqb (entry x.log i).index (entry x.log k).index)) k j (all_at (unlike x) x.count k h l) (lookup_below x.log _ k p)))
@@ -406,10 +405,10 @@ single_copy m mem v ra a w good z al n y rt c u au same done =
 -- ---- a commit
 
 -- the place's bytes over memory's
-loaded_byte : (es : List Entry) (mem : List ℕ) (f : Found) (d j : ℕ) → j < 8 → byte (loaded es mem f d) j ≡ placed_over es f j (byte (get_or mem d 0) j)
+loaded_byte : (es : List Entry) (mem : List ℕ) (f : Option ℕ) (d j : ℕ) → j < 8 → byte (loaded es mem f d) j ≡ placed_over es f j (byte (get_or mem d 0) j)
 unfolding loaded
-loaded_byte es mem Absent d j h = refl
-loaded_byte es mem (At n) d j h = merged_byte (entry es n).marks (get_or mem d 0) (entry es n).value j h
+loaded_byte es mem None d j h = refl
+loaded_byte es mem (Some n) d j h = merged_byte (entry es n).marks (get_or mem d 0) (entry es n).value j h
 
 pub committed_at_once : CommittedAtOnce
 unfolding perform effect tend written

@@ -1,13 +1,11 @@
 -- Single-copy atomicity: an aligned access of one, two, four or eight bytes is made at once. Who sees one byte of a store sees all of them
 -- that it looks at, and nobody sees one before. Bytes go by their addresses here (rule M17). Proved in proofs/Atomic.antt.
-use Rattle.std.specs.Prelude.{◌≡◌, Bool, true, false, cond, List, ◌⊎◌, ℕ, ◌+◌, ◌-◌, ◌%◌, ◌≤◌, ◌<◌, length, nat_lt, slice_index}
+use Rattle.std.specs.Prelude.{◌≡◌, Bool, true, false, cond, Option, Some, None, List, ◌⊎◌, ℕ, ◌+◌, ◌-◌, ◌%◌, ◌≤◌, ◌<◌, length, nat_lt, slice_index}
 use Rattle.lines.specs.Lines.{place}
 use Rattle.doubleword.specs.Doubleword.{byte, doubleword_of, lowest, part}
 use Rattle.transaction.specs.Transaction.{entry, line, lookup, load}
 use Rattle.transaction.specs.declared.Entry.{Entry}
 use Rattle.transaction.specs.declared.Transaction.{Transaction}
-use Rattle.transaction.specs.declared.Found.{Found}
-use Rattle.transaction.specs.declared.Found.TheVariants.{At, Absent}
 use Rattle.thread.specs.declared.State.TheVariants.{T}
 use Rattle.thread.specs.declared.Thread.{Thread}
 use Rattle.event.specs.declared.Event.{Event}
@@ -128,9 +126,9 @@ SingleCopy =
 -- ---- a commit
 
 -- byte j of a doubleword after its place in a log, if it has one, went there: the place's byte if that is marked
-abbrev pub placed_over : List Entry → Found → (j was : ℕ) → ℕ
-placed_over es (At n) j was = cond (place (entry es n).marks j) (byte (entry es n).value j) was
-placed_over es Absent j was = was
+abbrev pub placed_over : List Entry → Option ℕ → (j was : ℕ) → ℕ
+placed_over es (Some n) j was = cond (place (entry es n).marks j) (byte (entry es n).value j) was
+placed_over es None j was = was
 
 abbrev pub log_over : Transaction → (b was : ℕ) → ℕ
 log_over x b was = placed_over x.log (lookup x (doubleword_of b)) (lowest 1 b) was

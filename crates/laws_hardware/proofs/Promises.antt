@@ -1,83 +1,40 @@
 -- The promises hold.
-use mathlib.Core.Path.{◌≡◌, refl, sym, ap, ◌∙◌}
-use mathlib.Core.Bool.{Bool, true, false, cond, not, ◌&&◌}
+use mathlib.Core.Path.{◌≡◌, refl, ap, ◌∙◌}
+use mathlib.Core.Bool.{Bool, true, false, cond}
 use Prim.Native.Nat.{ℕ, ◌+◌, ◌*◌, ◌/◌, ◌%◌, ◌<◌, ◌^◌}
 use native.Mathlib.Omega.{arith}
 use lib.Dec.{eqb, leb}
 use lib.Bits.{xor_self}
-use borrow.Author.Tests.{eq-eqb, ne_eqb, eqb-true}
+use Rattle.std.proofs.lemmas.Bool.Decides.{nat_tests}
+use Rattle.std.proofs.Math.Bool.{and-false, and-not_self}
+use borrow.Author.Tests.{eq-eqb, ne_eqb}
 use Rattle.base.specs.Below.{bit}
 use Rattle.base.proofs.Below.{bit_lt}
-use Rattle.thread.specs.Texasr.{weight, fs, rot, tl, upper, packed}
+use Rattle.thread.specs.Texasr.{fs, rot, tl, upper, packed}
 use Rattle.hardware.specs.Fields.{bit_at, code, causes, named, one_of, told}
-use Rattle.hardware.specs.Table.{seven, first_byte, may_be_exact, is_exact, exact, level}
+use Rattle.hardware.specs.Table.{seven, first_byte, exact, level}
 use Rattle.hardware.specs.Render.{rendered, going, value, care}
-use Rattle.hardware.specs.Judge.{form, is_other, judged, judgement, tfiar, tfiar_differing, alike, only, compared}
+use Rattle.hardware.specs.Judge.{form, is_other, judged, tfiar, tfiar_differing, compared}
 use Rattle.hardware.specs.declared.Seventh.{Seventh}
 use Rattle.hardware.specs.declared.Seventh.TheVariants.{Free, Zero, One}
 use Rattle.hardware.specs.declared.Profile.{Profile}
-use Rattle.hardware.specs.declared.Verdict.TheVariants.{Equal}
-use Rattle.laws_hardware.specs.Promises.{EqualToItself, shown_registers, AllEqual, RenderedOnce, SameWithoutHv, Table, States, Verdicts, Decided, Bench, all_judged, split, fixed, free, row_right, rows_right, state_right, states_right}
+use Rattle.laws_hardware.specs.Promises.{EqualToItself, AllEqual, RenderedOnce, SameWithoutHv, Table, States, Verdicts, Decided, Bench, all_judged, split, fixed, free, row_right, rows_right, state_right, states_right}
 
--- ---- the fields of a packed TEXASR with HV
-
-module _ (c s p e r l h : ℕ) (hs : s < 2) (hp : p < 2) (he : e < 2) (hr : r < 2) (hl : l < 2 ^ 12) (hh : h < 2) where
-  abbrev whole : ℕ
-  whole = packed c s p e r l + h * weight 34
-
-  whole_fs : fs whole ≡ 1
-  whole_fs = omega arith
-
-  whole_upper : upper whole ≡ c
-  whole_upper = omega arith
-
-  whole_32 : bit_at 32 whole ≡ s
-  whole_32 = omega arith
-
-  whole_35 : bit_at 35 whole ≡ p
-  whole_35 = omega arith
-
-  whole_37 : bit_at 37 whole ≡ e
-  whole_37 = omega arith
-
-  whole_rot : rot whole ≡ r
-  whole_rot = omega arith
-
-  whole_tl : tl whole ≡ l
-  whole_tl = omega arith
-
-  whole_code : code whole ≡ c / 2 ^ 24 % 2 ^ 8
-  whole_code = omega arith
-
--- ---- the table's numbers fit their fields, and what it gives for a cause it gives again
+-- ---- the table's numbers fit their fields
 
 seven_lt : (s : Seventh) → seven s < 2
 seven_lt Free = omega arith
 seven_lt Zero = omega arith
 seven_lt One = omega arith
 
-cond_lt : (t : Bool) (a b n : ℕ) → a < n → b < n → cond t a b < n
-cond_lt true a b n ha hb = ha
-cond_lt false a b n ha hb = hb
-
 first_byte_lt : (s : Seventh) (b c : ℕ) → c < 2 ^ 8 → first_byte s b c < 2 ^ 8
-first_byte_lt s b c h =
-    let k = seven_lt s in
-    cond_lt (eqb b 31) c _ (2 ^ 8) h (cond_lt (eqb b 9) (seven s) _ (2 ^ 8) (omega arith) (cond_lt (leb b 11) 1 0 (2 ^ 8) (omega arith) (omega arith)))
+first_byte_lt s b c h = grind (arith, seven_lt)
 
 exact_lt : (b e : ℕ) → e < 2 → exact b e < 2
-exact_lt b e h = cond_lt (may_be_exact b) e _ 2 h (cond_lt (is_exact b) 1 0 2 (omega arith) (omega arith))
+exact_lt b e h = grind arith
 
 level_lt : (p : Profile) (b l : ℕ) → l < 2 ^ 12 → level p b l < 2 ^ 12
-level_lt p b l h = cond_lt (eqb b 9) _ l (2 ^ 12) (omega arith) h
-
-cond_again : (t : Bool) (a b : ℕ) → cond t (cond t a b) b ≡ cond t a b
-cond_again true a b = refl
-cond_again false a b = refl
-
-cond_again_r : (t : Bool) (a b : ℕ) → cond t a (cond t a b) ≡ cond t a b
-cond_again_r true a b = refl
-cond_again_r false a b = refl
+level_lt p b l h = grind arith
 
 -- ---- a value rendered tells the same cause, and its fields are the table's
 
@@ -101,49 +58,40 @@ module _ (p : Profile) (x b : ℕ) where
   hc = first_byte_lt p.seventh b (code x) (omega arith)
 
   rendered_fs : fs (rendered p x b) ≡ 1
-  rendered_fs = whole_fs c (bit_at 32 x) (bit_at 35 x) e (rot x) l (bit p.hv) (omega arith) (omega arith) he (omega arith) hl (bit_lt p.hv)
+  rendered_fs = omega (arith, he, hl, bit_lt p.hv)
 
   rendered_upper : upper (rendered p x b) ≡ c
-  rendered_upper = whole_upper c (bit_at 32 x) (bit_at 35 x) e (rot x) l (bit p.hv) (omega arith) (omega arith) he (omega arith) hl (bit_lt p.hv)
+  rendered_upper = omega (arith, he, hl, bit_lt p.hv)
 
   rendered_causes : causes (rendered p x b) ≡ causes x
   rendered_causes = ap (λ (n : ℕ). n % 2 ^ 24) rendered_upper ∙ omega arith
 
   rendered_code : code (rendered p x b) ≡ first_byte p.seventh b (code x)
-  rendered_code =
-      whole_code c (bit_at 32 x) (bit_at 35 x) e (rot x) l (bit p.hv) (omega arith) (omega arith) he (omega arith) hl (bit_lt p.hv)
-      ∙ omega (arith, hc)
+  rendered_code = omega (arith, he, hl, hc, bit_lt p.hv)
 
   rendered_32 : bit_at 32 (rendered p x b) ≡ bit_at 32 x
-  rendered_32 = whole_32 c (bit_at 32 x) (bit_at 35 x) e (rot x) l (bit p.hv) (omega arith) (omega arith) he (omega arith) hl (bit_lt p.hv)
+  rendered_32 = omega (arith, he, hl, bit_lt p.hv)
 
   rendered_35 : bit_at 35 (rendered p x b) ≡ bit_at 35 x
-  rendered_35 = whole_35 c (bit_at 32 x) (bit_at 35 x) e (rot x) l (bit p.hv) (omega arith) (omega arith) he (omega arith) hl (bit_lt p.hv)
+  rendered_35 = omega (arith, he, hl, bit_lt p.hv)
 
   rendered_37 : bit_at 37 (rendered p x b) ≡ e
-  rendered_37 = whole_37 c (bit_at 32 x) (bit_at 35 x) e (rot x) l (bit p.hv) (omega arith) (omega arith) he (omega arith) hl (bit_lt p.hv)
+  rendered_37 = omega (arith, he, hl, bit_lt p.hv)
 
   rendered_rot : rot (rendered p x b) ≡ rot x
-  rendered_rot = whole_rot c (bit_at 32 x) (bit_at 35 x) e (rot x) l (bit p.hv) (omega arith) (omega arith) he (omega arith) hl (bit_lt p.hv)
+  rendered_rot = omega (arith, he, hl, bit_lt p.hv)
 
   rendered_tl : tl (rendered p x b) ≡ l
-  rendered_tl = whole_tl c (bit_at 32 x) (bit_at 35 x) e (rot x) l (bit p.hv) (omega arith) (omega arith) he (omega arith) hl (bit_lt p.hv)
+  rendered_tl = omega (arith, he, hl, bit_lt p.hv)
 
   rendered_again : rendered p (rendered p x b) b ≡ rendered p x b
   rendered_again =
-      simp (rendered_causes, rendered_code, rendered_32, rendered_35, rendered_37, rendered_rot, rendered_tl, cond_again, cond_again_r)
+      simp (rendered_causes, rendered_code, rendered_32, rendered_35, rendered_37, rendered_rot, rendered_tl) (grind arith)
 
 -- a cause is told only where FS = 1
 told_failed : (x : ℕ) → leb 8 (told x) ≡ true → told x ≡ one_of named (causes x)
 unfolding told
-told_failed x h = go (eqb (fs x) 1) refl
-  where
-    go : (t : Bool) → eqb (fs x) 1 ≡ t → told x ≡ one_of named (causes x)
-    go true q = simp q
-    go false q =
-        let z : ◌≡◌ {A = Bool} false true = simp q at h in
-        let y : ◌≡◌ {A = ℕ} 0 1 = ap bit z in
-        absurd (omega arith)
+told_failed x h = grind (arith, nat_tests)
 
 rendered_told : (p : Profile) (x b : ℕ) → told (rendered p x b) ≡ one_of named (causes x)
 unfolding told
@@ -162,59 +110,33 @@ going_again x = omega arith
 
 value_told : (p : Profile) (x : ℕ) → told (value p x) ≡ told x
 unfolding value
-value_told p x = go (leb 8 (told x)) (eqb (told x) 0) refl refl
-  where
-    go : (t u : Bool) → leb 8 (told x) ≡ t → eqb (told x) 0 ≡ u → told (value p x) ≡ told x
-    go true u q r = simp q (rendered_told p x (told x) ∙ sym (told_failed x q))
-    go false true q r = simp (q, r) (going_told x ∙ sym (eqb-true (told x) 0 r))
-    go false false q r = simp (q, r)
+value_told p x = grind (arith, nat_tests, rendered_told, told_failed, going_told)
 
 -- ---- the promises
 
 pub rendered_once : RenderedOnce
 unfolding value
-rendered_once p x = go (leb 8 (told x)) (eqb (told x) 0) refl refl
-  where
-    go : (t u : Bool) → leb 8 (told x) ≡ t → eqb (told x) 0 ≡ u → value p (value p x) ≡ value p x
-    go true u q r =
-        let k : told (rendered p x (told x)) ≡ told x = rendered_told p x (told x) ∙ sym (told_failed x q) in
-        simp (q, k) (rendered_again p x (told x))
-    go false true q r = simp (q, r, going_told x) (going_again x)
-    go false false q r = simp (q, r)
-
-not_both : (t : Bool) → (t && not t) ≡ false
-not_both true = refl
-not_both false = refl
-
-and_false : (t : Bool) → (t && false) ≡ false
-and_false true = refl
-and_false false = refl
+rendered_once p x = grind (arith, nat_tests, rendered_told, told_failed, rendered_again, going_told, going_again)
 
 other_itself : (p : Profile) (x : ℕ) → is_other p x (value p x) ≡ false
 unfolding is_other
-other_itself p x = simp (xor_self (value p x)) (not_both (eqb (tl (value p x)) 0))
+other_itself p x = simp (xor_self (value p x)) (and-not_self (eqb (tl (value p x)) 0))
 
 pub equal_to_itself : EqualToItself
 unfolding judged
 equal_to_itself p x h =
-    simp (value_told p x, ne_eqb (told x) 1 h, eq-eqb (told x) (told x) refl, other_itself p x, and_false, xor_self (value p x))
-
-either_zero : (t : Bool) → cond {A = ℕ} t 0 0 ≡ 0
-either_zero true = refl
-either_zero false = refl
+    simp (value_told p x, ne_eqb (told x) 1 h, eq-eqb (told x) (told x) refl, other_itself p x, and-false, xor_self (value p x))
 
 tfiar_itself : (p : Profile) (x m h : ℕ) → tfiar_differing p x m h (tfiar p m) ≡ 0
 unfolding tfiar_differing
-tfiar_itself p x m h = simp (xor_self (tfiar p m), either_zero)
+tfiar_itself p x m h = simp (xor_self (tfiar p m)) (grind arith)
 
 pub all_equal : AllEqual
 unfolding compared
-all_equal p m h = go (alike m (shown_registers p m)) refl
-  where
-    go : (t : Bool) → alike m (shown_registers p m) ≡ t → compared p m (shown_registers p m) ≡ only (judgement Equal 0)
-    go true q =
-        simp (q, equal_to_itself p m.texasr h, tfiar_itself p m.texasr m.tfiar (value p m.texasr), xor_self m.tfhar, xor_self m.cr0)
-    go false q = simp (q, equal_to_itself p m.texasr h)
+all_equal p m h =
+    let j = equal_to_itself p m.texasr h in
+    let t = tfiar_itself p m.texasr m.tfiar (value p m.texasr) in
+    simp (j, t, xor_self m.tfhar, xor_self m.cr0) (grind arith)
 
 -- a failure without HV whose cause the table leaves as it is
 module _ (p : Profile) (c s pr e r l b : ℕ) (hv : p.hv ≡ false) (hc : c < 2 ^ 32) (hs : s < 2) (hp : pr < 2) (he : e < 2) (hr : r < 2) (hl : l < 2 ^ 12)

@@ -2,7 +2,8 @@
 use mathlib.Core.Path.{◌≡◌, refl, ap, ◌∙◌}
 use mathlib.Core.Bool.{Bool, true, false, not, ◌&&◌, ◌||◌}
 use mathlib.Core.List.{List, [], ◌∷◌}
-use Prim.Native.Nat.{ℕ, ◌+◌, ◌*◌, ◌/◌, ◌%◌, ◌^◌, ◌≤◌, ◌<◌}
+use Prim.Native.Nat.{ℕ, zero, suc, ◌+◌, ◌*◌, ◌/◌, ◌%◌, ◌^◌, ◌≤◌, ◌<◌}
+use native.Mathlib.Omega.{arith}
 use lib.Dec.{eqb, ltb}
 use lib.ListN.{length, take, drop, get_or}
 use borrow.Author.Tests.{ltb-false, le-ltb}
@@ -12,7 +13,6 @@ use Rattle.base.proofs.Below.{no_number}
 use Rattle.event.specs.declared.Fields.{Fields}
 use Rattle.machine.specs.Valid.{sized}
 use Rattle.machine.specs.declared.Machine.{Machine}
-use Rattle.rows.proofs.Laws.{one_of_four}
 use Rattle.step_rules.specs.Step as events
 use Rattle.step_rules.specs.declared.Done.{Done}
 use Rattle.tape.specs.Tape as tape
@@ -81,6 +81,14 @@ unfolding step
 stop_changes_nothing m mem f four h = met_stops f m mem (event_read f) (right m) refl four h
 
 -- ---- the threads that failed
+
+-- what holds of each of the four threads holds of every thread
+one_of_four : (P : ℕ → Type 0) → P 0 → P 1 → P 2 → P 3 → (v : ℕ) → v < most_threads → P v
+one_of_four P a b c d zero h = a
+one_of_four P a b c d (suc zero) h = b
+one_of_four P a b c d (suc (suc zero)) h = c
+one_of_four P a b c d (suc (suc (suc zero))) h = d
+one_of_four P a b c d (suc (suc (suc (suc v)))) h = absurd (omega arith)
 
 -- four bits of a number
 bits : (a b c d : Bool) → (v : ℕ) → v < most_threads → (bit a + 2 * bit b + 4 * bit c + 8 * bit d) / 2 ^ v % 2 ≡ bit (get_or (a ∷ b ∷ c ∷ d ∷ []) v false)

@@ -21,8 +21,7 @@ use Rattle.lines.specs.declared.LineSet.{LineSet}
 use Rattle.lines.proofs.Laws.{has_empty, has_with, length_with, footprint_with_new, footprint_with_new_write, footprint_with_old, footprint_with_old_write}
 use Rattle.transaction.specs.Transaction as transaction
 use Rattle.transaction.specs.declared.Entry.{Entry}
-use Rattle.transaction.specs.declared.Found.{Found}
-use Rattle.transaction.specs.declared.Found.TheVariants.{At, Absent}
+use Rattle.std.specs.Prelude.{Option, Some, None}
 use Rattle.transaction.specs.declared.Transaction.{Transaction}
 use Rattle.transaction.proofs.Laws.{lookup_absent, lookup_below, store_place, store_count, store_over, store_is, store_other, store_place_below, store_count_most, store_there, store_index}
 use Rattle.machine.specs.Valid.{place_right, unused_zero, indices_inside, line_inside, lines_inside, unlike, distinct, logs_line, line_logged, writes_logged, marked_right, marks_right, held_right, no_line, holds_nothing}
@@ -217,7 +216,7 @@ place_more e n c d h p = go (ltb n c) refl
 -- a place that is used after a store, with the doubleword that it holds: it was used before, or is the new one
 data Used (x : Transaction) (i n j : ℕ) : Type 0 where
   old : n < x.count → j ≡ (transaction.entry x.log n).index → Used x i n j
-  new : n ≡ x.count → j ≡ i → transaction.lookup x i ≡ Absent → Used x i n j
+  new : n ≡ x.count → j ≡ i → transaction.lookup x i ≡ None → Used x i n j
 
 module _ (x : Transaction) (i ms v : ℕ) (s : Shaped x) (u : unused_zero x ≡ true) (f : transaction.full x (transaction.lookup x i) ≡ false) where
   count_is : (transaction.store x i ms v).count ≡ store_count x (transaction.lookup x i)
@@ -226,9 +225,9 @@ module _ (x : Transaction) (i ms v : ℕ) (s : Shaped x) (u : unused_zero x ≡ 
   count_grows : x.count ≤ (transaction.store x i ms v).count
   count_grows = rw count_is (go (transaction.lookup x i))
     where
-      go : (g : Found) → x.count ≤ store_count x g
-      go (At k) = omega arith
-      go Absent = omega arith
+      go : (g : Option ℕ) → x.count ≤ store_count x g
+      go (Some k) = omega arith
+      go None = omega arith
 
   kept : (n : ℕ) → n < x.count → (transaction.entry (transaction.store x i ms v).log n).index ≡ (transaction.entry x.log n).index
   kept = store_index x i ms v s.log (unused_count x u) f
@@ -243,9 +242,9 @@ module _ (x : Transaction) (i ms v : ℕ) (s : Shaped x) (u : unused_zero x ≡ 
   used : (n : ℕ) → n < (transaction.store x i ms v).count → Used x i n (transaction.entry (transaction.store x i ms v).log n).index
   used n h = go (dec_lt n x.count)
     where
-      last : (g : Found) → n < store_count x g → x.count ≤ n → (n ≡ x.count) × (n ≡ store_place x g) × (g ≡ Absent)
-      last (At k) q o = absurd (omega arith)
-      last Absent q o = (omega arith, omega arith, refl)
+      last : (g : Option ℕ) → n < store_count x g → x.count ≤ n → (n ≡ x.count) × (n ≡ store_place x g) × (g ≡ None)
+      last (Some k) q o = absurd (omega arith)
+      last None q o = (omega arith, omega arith, refl)
 
       go : Dec (n < x.count) → Used x i n (transaction.entry (transaction.store x i ms v).log n).index
       go (yes q) = old q (kept n q)
@@ -313,11 +312,11 @@ module _ (x : Transaction) (i ms v : ℕ) (s : Shaped x) (u : unused_zero x ≡ 
   stored_right e z o =
       and_intro _ _ (ap not (ne_eqb (bit_or e.marks ms) 0 (λ q. omega (arith, or_add_and e.marks ms, and_le_l e.marks ms)))) (merged_only ms e.marks e.value v o)
 
-  over_right : marks_right x ≡ true → (g : Found) → transaction.lookup x i ≡ g → only_marked (store_over x g).marks (store_over x g).value ≡ true
+  over_right : marks_right x ≡ true → (g : Option ℕ) → transaction.lookup x i ≡ g → only_marked (store_over x g).marks (store_over x g).value ≡ true
   unfolding marks_right marked_right
-  over_right p (At k) e =
+  over_right p (Some k) e =
       and_right (not (eqb (transaction.entry x.log k).marks 0)) _ (all_at (λ n. marked_right (transaction.entry x.log n)) x.count k p (lookup_below x.log i x.count e))
-  over_right p Absent e = none_marked
+  over_right p None e = none_marked
 
   store_marks : 0 < ms → marks_right x ≡ true → marks_right (transaction.store x i ms v) ≡ true
   unfolding marks_right

@@ -18,8 +18,7 @@ use Rattle.transaction.specs.declared.Cause.TheVariants.{Footprint}
 use Rattle.transaction.specs.declared.Entry.{Entry}
 use Rattle.transaction.specs.declared.Touch.{Touch}
 use Rattle.transaction.specs.declared.Write.TheVariants.{Unwritten}
-use Rattle.transaction.specs.declared.Found.{Found}
-use Rattle.transaction.specs.declared.Found.TheVariants.{At, Absent}
+use Rattle.std.specs.Prelude.{Option, Some, None}
 use Rattle.transaction.proofs.Laws.{lookup_same}
 use Rattle.thread.specs.Texasr.{tl}
 use Rattle.thread.specs.Thread.{with_transaction, failed, recording, handling}
@@ -177,20 +176,20 @@ module _ (t : Thread) (r : Registers) (f : ℕ) (es : List Entry) (p : t.control
   unfolding store logs transaction.crowded transaction.full transaction.store_at transaction.stored
   store_even i m v v' =
       let g = transaction.lookup t.transaction i in
-      subst (λ (h : Found). EvenEffect (at t v g) (at (beside t r f es) v' h)) (lookup_same t.transaction.log es i _ (λ k l. (q k).0)) (found g)
+      subst (λ (h : Option ℕ). EvenEffect (at t v g) (at (beside t r f es) v' h)) (lookup_same t.transaction.log es i _ (λ k l. (q k).0)) (found g)
     where
-      room : Thread → Found → Bool
+      room : Thread → Option ℕ → Bool
       room t g = transaction.crowded t.transaction (transaction.line i) || transaction.full t.transaction g
 
-      at : Thread → ℕ → Found → Effect
+      at : Thread → ℕ → Option ℕ → Effect
       at t v g = cond (room t g) (quiet (fails t Footprint)) (stores (passes (with_transaction t (transaction.store_at t.transaction g i m v))) i Unwritten)
 
       kept : (n : ℕ) (a b : Entry) → Stored a b → (k : ℕ) → Stored (entry (set t.transaction.log n a) k) (entry (set es n b) k)
       kept n a b e = set_both (λ k a b. Stored a b) transaction.no_entry t.transaction.log es n a b size q e
 
-      found : (g : Found) → EvenEffect (at t v g) (at (beside t r f es) v' g)
-      found (At n) = both EvenEffect (room t (At n)) (λ x. falls _) (λ x. goes p (kept n _ _ (refl, ap (λ (k : ℕ). bit_or k m) (q n).1)))
-      found Absent = both EvenEffect (room t Absent) (λ x. falls _) (λ x. goes p (kept _ _ _ (refl, refl)))
+      found : (g : Option ℕ) → EvenEffect (at t v g) (at (beside t r f es) v' g)
+      found (Some n) = both EvenEffect (room t (Some n)) (λ x. falls _) (λ x. goes p (kept n _ _ (refl, ap (λ (k : ℕ). bit_or k m) (q n).1)))
+      found None = both EvenEffect (room t None) (λ x. falls _) (λ x. goes p (kept _ _ _ (refl, refl)))
 
   disallowed_even : Evenly (disallowed T t) (disallowed T (beside t r f es))
   unfolding disallowed

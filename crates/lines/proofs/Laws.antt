@@ -1,7 +1,7 @@
 -- Laws of the line sets: places of words, what a set holds after a line was added, footprints and meetings.
 use mathlib.Core.Path.{◌≡◌, refl, sym, ap, subst, ◌∙◌}
 use mathlib.Core.Bool.{Bool, true, false, ◌&&◌, ◌||◌, not, cond, beq, and_comm, or_comm, or-false, or-true, and-true, and-false, true≢false}
-use mathlib.Core.List.{List}
+use mathlib.Core.List.{List, [], ◌∷◌}
 use Prim.Native.Nat.{ℕ, zero, suc, ◌+◌, ◌-◌, ◌*◌, ◌/◌, ◌%◌, ◌^◌, ◌≤◌, ◌<◌, min, max}
 use native.Mathlib.Nat.{mod-lt, zero-add, zero-div, div-one, lt_of_le_of_lt}
 use native.Mathlib.Decide.{ℕ_discrete, dec_lt}
@@ -13,13 +13,14 @@ use lib.Bits.{bit_and, bit_or, and_shr, and_step, and_le_l, or_shr, or_step, or_
 use lib.Count.{ones, ones_step}
 use lib.Dec.{eqb, ltb, eqb-suc-zero, eqb-zero-suc, eqb-suc-suc, lit<}
 use lib.ListN.{get_or, length, length-set, replicate}
+use lib.Pointwise.{pointwise}
 use lib.Seq.{get_or-set_same, get_or-set_other, set_out}
 use borrow.Author.Tests.{eq-eqb, ne_eqb, eqb-true, eqb-false, not-true, lt-ltb, le-ltb}
 use Rattle.base.specs.Limits.{lines, words, page_lines}
 use Rattle.base.specs.Below.{bit, all_below, any_below, count_below}
 use Rattle.base.proofs.Below.{all_at, all_from, all_cong, all_add, any_at, any_false, any_false_at, any_witness, any_not, any_cong, any_add, count_low, count_cong, count_le, count_add, count_one, and_intro, bit_lt, bit_test, digit_bit}
 use Rattle.lines.specs.Lines.{place, word, empty, has, has_page, with, meets, footprint}
-use Rattle.lines.specs.Inner.{shared, alike, joined, clear_from, line_mask, page_mask}
+use Rattle.lines.specs.Inner.{same, ends, shared, alike, joined, clear_from, line_mask, page_mask}
 use Rattle.lines.specs.declared.LineSet.{LineSet}
 
 -- ---- the places of a word
@@ -156,6 +157,11 @@ clear_shifted a b s h k l =
     not_back true false e = sym e
     not_back false true e = sym e
     not_back false false e = refl
+
+-- and there is none from 64 on
+pub clear_past : (a b s : ℕ) → 64 ≤ s → clear_from a b s ≡ true
+unfolding clear_from
+clear_past a b s h = all_from _ 64 (λ i q. simp (lt-ltb i s (omega arith)))
 
 -- two words share a place unless their bitwise and is 0
 pub shared_and : (a b : ℕ) → a < 2 ^ 64 → shared a b ≡ not (eqb (bit_and a b) 0)
@@ -305,19 +311,45 @@ footprint_more r w k =
     ap (count_below _) (let e : 64 * (k + 1) ≡ 64 * k + 64 = omega arith in e) ∙ count_add (either r w) (64 * k) 64
     ∙ ap (λ (x : ℕ). count_below (either r w) (64 * k) + x) (count_cong _ _ 64 (λ i h. λ j. at_word r k i h j || at_word w k i h j))
 
-pub meets_more : (a b : LineSet) (k : ℕ) (t : Bool) → 0 < k → shared (word a (k - 1)) (word b (k - 1)) ≡ t → any_below (both a b) (64 * k) ≡ (t || any_below (both a b) (64 * (k - 1)))
+pub meets_more : (a b : LineSet) (k : ℕ) (t : Bool) → shared (word a k) (word b k) ≡ t → any_below (both a b) (64 * (k + 1)) ≡ (t || any_below (both a b) (64 * k))
 unfolding shared
-meets_more a b k t p q =
-    ap (any_below _) (let e : 64 * k ≡ 64 * (k - 1) + 64 = omega arith in e) ∙ any_add (both a b) (64 * (k - 1)) 64
-    ∙ ap (λ (x : Bool). x || any_below (both a b) (64 * (k - 1)))
-    (any_cong _ _ 64 (λ i h. λ j. at_word a (k - 1) i h j && at_word b (k - 1) i h j) ∙ q)
+meets_more a b k t q =
+    ap (any_below _) (let e : 64 * (k + 1) ≡ 64 * k + 64 = omega arith in e) ∙ any_add (both a b) (64 * k) 64
+    ∙ ap (λ (x : Bool). x || any_below (both a b) (64 * k))
+    (any_cong _ _ 64 (λ i h. λ j. at_word a k i h j && at_word b k i h j) ∙ q)
 
-pub same_more : (a b : LineSet) (k : ℕ) (t : Bool) → 0 < k → alike (word a (k - 1)) (word b (k - 1)) ≡ t → all_below (agree a b) (64 * k) ≡ (t && all_below (agree a b) (64 * (k - 1)))
-unfolding alike
-same_more a b k t p q =
-    ap (all_below _) (let e : 64 * k ≡ 64 * (k - 1) + 64 = omega arith in e) ∙ all_add (agree a b) (64 * (k - 1)) 64
-    ∙ ap (λ (x : Bool). x && all_below (agree a b) (64 * (k - 1)))
-    (all_cong _ _ 64 (λ i h. λ j. beq (at_word a (k - 1) i h j) (at_word b (k - 1) i h j)) ∙ q)
+-- sets that meet in some of the words meet
+pub meets_found : (a b : LineSet) (k : ℕ) → k < words → shared (word a k) (word b k) ≡ true → meets a b ≡ true
+unfolding meets
+meets_found a b k h q =
+    let w = any_witness (both a b) (64 * (k + 1)) (meets_more a b k true q) in
+    any_at (both a b) lines w.0 w.2 (omega (arith, w.1))
+
+same_words : (a b : LineSet) (k : ℕ) → all_below (agree a b) (64 * k) ≡ all_below (λ i. alike (word a i) (word b i)) k
+unfolding alike all_below
+same_words a b zero = refl
+same_words a b (suc k) =
+    ap (all_below _) (let e : 64 * suc k ≡ 64 * k + 64 = omega arith in e) ∙ all_add (agree a b) (64 * k) 64
+    ∙ (λ j. all_cong (λ i. agree a b (64 * k + i)) _ 64 (λ i h. λ l. beq (at_word a k i h l) (at_word b k i h l)) j && same_words a b k j)
+
+equal_words : (xs ys : List ℕ) (n : ℕ) → length xs ≡ n → length ys ≡ n → all_below (λ k. eqb (get_or xs k 0) (get_or ys k 0)) n ≡ pointwise eqb xs ys
+unfolding all_below
+equal_words [] [] zero h k = refl
+equal_words [] ys (suc n) h k = cc
+equal_words (x ∷ xs) ys zero h k = cc
+equal_words [] (y ∷ ys) zero h k = cc
+equal_words (x ∷ xs) [] (suc n) h k = cc
+equal_words (x ∷ xs) (y ∷ ys) (suc n) h k =
+    let f = λ (k : ℕ). eqb (get_or (x ∷ xs) k 0) (get_or (y ∷ ys) k 0) in
+    let shorter : all_below (λ k. eqb (get_or xs k 0) (get_or ys k 0)) n ≡ pointwise eqb xs ys = equal_words xs ys n (cc) (cc) in
+    ap (all_below f) (sym (one-add n)) ∙ all_add f 1 n
+    ∙ (λ j. all_cong (λ i. f (1 + i)) (λ i. eqb (get_or xs i 0) (get_or ys i 0)) n (λ i l. ap f (one-add i)) j && and-true (eqb x y) j)
+    ∙ and_comm _ (eqb x y) ∙ ap (◌&&◌ (eqb x y)) shorter
+
+-- two sets of words of 64 bits hold the same lines where they are equal
+pub same_equal : (a b : LineSet) → length a.words ≡ words → length b.words ≡ words → ((k : ℕ) → k < words → word a k < 2 ^ 64) → ((k : ℕ) → k < words → word b k < 2 ^ 64) → same a b ≡ pointwise eqb a.words b.words
+unfolding same
+same_equal a b h k f g = same_words a b words ∙ all_cong _ _ words (λ i l. alike_eqb (word a i) (word b i) (f i l) (g i l)) ∙ equal_words a.words b.words words h k
 
 -- a line is below n, or in neither set
 abbrev pub before : LineSet → LineSet → ℕ → ℕ → Bool
@@ -330,12 +362,21 @@ shifted m i n = go (dec_lt i (n - m))
     go (yes h) = lt-ltb (m + i) n (omega arith) ∙ sym (lt-ltb i (n - m) h)
     go (no h) = le-ltb (m + i) n (omega arith) ∙ sym (le-ltb i (n - m) (omega arith))
 
-pub ends_more : (a b : LineSet) (n k : ℕ) (t : Bool) → 0 < k → clear_from (word a (k - 1)) (word b (k - 1)) (n - 64 * (k - 1)) ≡ t → all_below (before a b n) (64 * k) ≡ (t && all_below (before a b n) (64 * (k - 1)))
+pub ends_more : (a b : LineSet) (n k : ℕ) (t : Bool) → clear_from (word a k) (word b k) (n - 64 * k) ≡ t → all_below (before a b n) (64 * (k + 1)) ≡ (t && all_below (before a b n) (64 * k))
 unfolding clear_from
-ends_more a b n k t p q =
-    ap (all_below _) (let e : 64 * k ≡ 64 * (k - 1) + 64 = omega arith in e) ∙ all_add (before a b n) (64 * (k - 1)) 64
-    ∙ ap (λ (x : Bool). x && all_below (before a b n) (64 * (k - 1)))
-    (all_cong _ _ 64 (λ i h. λ j. shifted (64 * (k - 1)) i n j || not (at_word a (k - 1) i h j || at_word b (k - 1) i h j)) ∙ q)
+ends_more a b n k t q =
+    ap (all_below _) (let e : 64 * (k + 1) ≡ 64 * k + 64 = omega arith in e) ∙ all_add (before a b n) (64 * k) 64
+    ∙ ap (λ (x : Bool). x && all_below (before a b n) (64 * k))
+    (all_cong _ _ 64 (λ i h. λ j. shifted (64 * k) i n j || not (at_word a k i h j || at_word b k i h j)) ∙ q)
+
+-- a word that has a line from n on is enough to refuse
+pub ends_found : (a b : LineSet) (n k : ℕ) → k < words → clear_from (word a k) (word b k) (n - 64 * k) ≡ false → ends a b n ≡ false
+unfolding ends
+ends_found a b n k h q = go (all_below (before a b n) lines) refl
+  where
+    go : (t : Bool) → all_below (before a b n) lines ≡ t → t ≡ false
+    go true e = sym (all_from (before a b n) (64 * (k + 1)) (λ i l. all_at (before a b n) lines i e (omega arith))) ∙ ends_more a b n k false q
+    go false e = refl
 
 -- ---- what a set holds
 

@@ -2,36 +2,106 @@
 #![tactic(auto)]
 
 ghost use Rattle.std.specs.Prelude.{◌≡◌, ◌-◌, ◌<◌};
-ghost use Rattle.base.specs.Limits.{lines};
-ghost use Rattle.lines.specs.Inner.{same, ends, clear_from, joined, shared, alike, line_mask, page_mask};
-ghost use Rattle.lines.specs.Lines.{empty, with, meets, footprint};
+ghost use Rattle.base.specs.Limits.{lines, pages};
+ghost use Rattle.lines.specs.Inner.{ends, shared, line_mask, page_mask};
+ghost use Rattle.lines.specs.Lines.{empty, has, has_page, with, meets, footprint};
 
 use base::WORDS;
 
 #[repr(C)]
-#[derive(Clone, Copy)]
+#[derive(Clone, Copy, PartialEq, Eq)]
 pub struct LineSet {
     pub words: [u64; WORDS],
 }
 
-pub fn empty() -> LineSet
-    ensures { result ≡ empty }
-{
-    LineSet { words: [0; WORDS] }
+impl LineSet {
+    #[inline]
+    #[tactic(auto, unfolding(crate::specs::Lines::empty))]
+    pub fn empty() -> LineSet
+        ensures { result ≡ empty }
+    {
+        LineSet { words: [0; WORDS] }
+    }
+
+    // A line is a number, as in `Touch` and the rules; so is a page. Callers have its bound from the operand: a type for it would be built at
+    // each call.
+    #[inline]
+    #[tactic(auto, unfolding(crate::specs::Lines::has, crate::specs::Lines::place))]
+    pub fn has(&self, line: usize) -> bool
+        requires { line < lines }
+        ensures { result ≡ has self.now line }
+    {
+        self.words[line / 64] >> (line % 64) & 1 == 1
+    }
+
+    // Has a line of the page: a page is half of word page / 2.
+    #[inline]
+    pub fn has_page(&self, page: usize) -> bool
+        requires { page < pages }
+        ensures { result ≡ has_page self.now page }
+    {
+        shared(self.words[page / 2], page_mask(page))
+    }
+
+    // One line more.
+    #[inline]
+    #[tactic(auto, unfolding(crate::specs::Lines::with))]
+    pub fn insert(&mut self, line: usize)
+        requires { line < lines }
+        ensures { self.new ≡ with self.old line }
+    {
+        self.words[line / 64] |= line_mask(line);
+    }
+
+    // The two sets have a line in common. By an index: over `zip` with `any` (tried) the check has no bound on a word that the closure gets.
+    #[inline]
+    pub fn meets(&self, other: &LineSet) -> bool
+        ensures { result ≡ meets self.now other.now }
+    {
+        for k in 0..WORDS {
+            if shared(self.words[k], other.words[k]) {
+                return true;
+            }
+        }
+        false
+    }
+
+    // How many lines the two sets have together. Word k of both by one index, as the definition counts them: a pair of `zip` is no plainer.
+    pub fn footprint(&self, other: &LineSet) -> u32
+        ensures { result ≡ footprint self.now other.now }
+    {
+        let mut n = 0;
+        for k in 0..WORDS {
+            n += (self.words[k] | other.words[k]).count_ones();
+        }
+        n
+    }
+
+    // No line from n on is in either set. By an index, since a word's own place says which of its lines those are.
+    pub fn ends(&self, other: &LineSet, n: usize) -> bool
+        ensures { result ≡ ends self.now other.now n }
+    {
+        for k in 0..WORDS {
+            let word = self.words[k] | other.words[k];
+            let s = n.saturating_sub(64 * k);
+            if s < 64 && word >> s != 0 {
+                return false;
+            }
+        }
+        true
+    }
 }
 
-// The set with one line more.
-pub fn with(s: LineSet, line: usize) -> LineSet
-    requires { line < lines }
-    ensures { result ≡ with s line }
+// Two words have a place that is set in both.
+#[inline]
+pub fn shared(a: u64, b: u64) -> bool
+    ensures { result ≡ shared a b }
 {
-    let k = line / 64;
-    let mut t = s;
-    t.words[k] = t.words[k] | (1 << (line % 64));
-    t
+    a & b != 0
 }
 
-// A line's place in its word.
+// A line's place in its word. It and `page_mask` take any number, as the rules' masks do.
+#[inline]
 pub fn line_mask(line: usize) -> u64
     ensures { result ≡ line_mask line }
 {
@@ -39,105 +109,13 @@ pub fn line_mask(line: usize) -> u64
 }
 
 // A page's half of its word, which is word page / 2.
+#[inline]
 pub fn page_mask(page: usize) -> u64
     ensures { result ≡ page_mask page }
 {
     if page % 2 == 0 {
-        return 0x0000_0000_FFFF_FFFF;
+        0x0000_0000_FFFF_FFFF
+    } else {
+        0xFFFF_FFFF_0000_0000
     }
-    0xFFFF_FFFF_0000_0000
-}
-
-// Two words have a place that is set in both.
-pub fn shared(a: u64, b: u64) -> bool
-    ensures { result ≡ shared a b }
-{
-    a & b != 0
-}
-
-// Two sets have a line in common.
-pub fn meets(a: LineSet, b: LineSet) -> bool
-    ensures { result ≡ meets a b }
-{
-    let mut k = WORDS;
-    while 0 < k {
-        k -= 1;
-        if shared(a.words[k], b.words[k]) {
-            return true;
-        }
-    }
-    false
-}
-
-// Two words have the same places set.
-fn alike(a: u64, b: u64) -> bool
-    ensures { result ≡ alike a b }
-{
-    a == b
-}
-
-// Two sets hold the same lines.
-pub fn same(a: LineSet, b: LineSet) -> bool
-    ensures { result ≡ same a b }
-{
-    let mut k = WORDS;
-    while 0 < k {
-        k -= 1;
-        if !alike(a.words[k], b.words[k]) {
-            return false;
-        }
-    }
-    true
-}
-
-// How many places are set in either of two words.
-fn joined(a: u64, b: u64) -> u32
-    ensures { result ≡ joined a b }
-{
-    u64::count_ones(a | b)
-}
-
-// How many lines the two sets have together.
-pub fn footprint(r: LineSet, w: LineSet) -> u32
-    ensures { result ≡ footprint r w }
-{
-    let mut n = 0;
-    for k in 0..WORDS {
-        n += joined(r.words[k], w.words[k]);
-    }
-    n
-}
-
-// A number less another, or 0 where that is more.
-fn less(n: usize, m: usize) -> usize
-    ensures { result ≡ n - m }
-{
-    if n < m {
-        return 0;
-    }
-    n - m
-}
-
-// No place from s on is set in either of two words.
-fn clear_from(a: u64, b: u64, s: usize) -> bool
-    ensures { result ≡ clear_from a b s }
-{
-    if 64 <= s {
-        return true;
-    }
-    (a | b) >> s == 0
-}
-
-// No line from n on is in either set.
-pub fn ends(r: LineSet, w: LineSet, n: usize) -> bool
-    ensures { result ≡ ends r w n }
-{
-    let mut k = WORDS;
-    while 0 < k {
-        k -= 1;
-        if !clear_from(r.words[k], w.words[k], less(n, 64 * k)) {
-            return false;
-        }
-    }
-    true
 }

@@ -2,41 +2,28 @@
 // stopped to standard error.
 #![tactic(auto)]
 
+ghost use Rattle.std.specs.Prelude.{IfOk};
 ghost use Rattle.std.specs.Counts.{IsPrefixLen};
 
 use std::io;
 use std::io::Read;
-use text_lines::LONGEST;
+use text_lines::{LONGEST, Page};
 
 // One byte more than the longest input, so that a longer one is seen to be too long.
 const BUFFER: usize = 65537;
 
-// What was read: how many bytes, and why a read failed.
-#[derive(Clone, Copy)]
-struct Got {
-    n: usize,
-    failed: Option<io::Error>,
-}
-
-// Reads until the buffer is full or the input ends, or a read fails.
-fn read_all<R: Read>(from: &mut R, buf: &mut [u8]) -> Got
-    ensures { IsPrefixLen result.n buf.new }
+// Reads until the buffer is full or the input ends. No `read_to_end`: that reads to the heap, where the program has fixed memory.
+fn read_all<R: Read>(from: &mut R, buf: &mut [u8]) -> io::Result<usize>
+    ensures { IfOk result (λ n. IsPrefixLen n buf.new) }
 {
     let mut n: usize = 0;
     while n < buf.len() {
-        let rest = &mut buf[n..];
-        match from.read(rest) {
-            Ok(0) => break,
-            Ok(more) => n += more,
-            Err(error) => {
-                return Got {
-                    n,
-                    failed: Some(error),
-                };
-            }
+        match from.read(&mut buf[n..])? {
+            0 => break,
+            more => n += more,
         }
     }
-    Got { n, failed: None }
+    Ok(n)
 }
 
 // The system's words for an error, without its number.
@@ -60,22 +47,22 @@ fn fail(rt: &HostRuntime, what: &str, error: io::Error) -> io::Result<()> {
 
 // The text of the input, written, and then why the run stopped, so that standard error has at most one line.
 fn answer(rt: &HostRuntime, input: &[u8]) -> io::Result<()> {
+    // Fixed memory, as the input's.
     let mut out = [0u8; LONGEST];
-    let r = text::text(input, &mut out);
-    let text = &out[..r];
-    match rt.write_all(text) {
-        Ok(()) => words::tell(rt, input, words::told::last(text)),
+    let mut page = Page::new(&mut out);
+    let ended = text::write(input, &mut page);
+    match rt.write_all(page.text()) {
+        Ok(()) => words::tell(rt, input, ended.as_ref()),
         Err(error) => fail(rt, "standard output", error),
     }
 }
 
-// No contract can say what is read or written: all the work is in text::text.
+// No contract can say what is read or written: all the work is in text::write.
 fn main(rt: HostRuntime) {
     let mut input = [0u8; BUFFER];
-    let got = read_all(&mut rt.stdin(), &mut input);
     // Where standard error fails too, nobody is left to be told.
-    let _ = match got.failed {
-        None => answer(&rt, &input[..got.n]),
-        Some(error) => fail(&rt, "standard input", error),
+    let _ = match read_all(&mut rt.stdin(), &mut input) {
+        Ok(n) => answer(&rt, &input[..n]),
+        Err(error) => fail(&rt, "standard input", error),
     };
 }

@@ -1,55 +1,65 @@
 // A tape run on a machine: the whole tape read first, then record by record (rules R1 to R5).
 #![tactic(auto)]
 
-pub mod records;
-
 ghost use Rattle.std.specs.Prelude.{◌≡◌, true, ◌/◌, length};
 ghost use Rattle.std.proofs.lemmas.List.Edits.{sets};
 ghost use Rattle.machine.specs.Valid.{valid};
 ghost use Rattle.tape.specs.Tape.{record_size};
 ghost use Rattle.tape.specs.FirstBad.{read_number, first_bad};
+ghost use Rattle.run_rules.specs.Inner.{filled};
 ghost use Rattle.run_rules.specs.Run.{reads, play, run};
 
-use base::{CR_FIELDS, GPRS, PLACES, THREADS, answer};
+use base::answer;
 use buffer::put;
 use machine::Machine;
-use rows::{HEAD, VALUES};
 use run_rules::Ended;
-use tape::RECORD_SIZE;
+use step::step_in_place;
+use tape::{RECORD_SIZE, Read, reader};
 
-// A tape without a bad record on a machine that is valid: laid into rows, run there, and lifted out.
+// A tape without a bad record on a machine that is valid: it stays so, and is not tested again.
+// Answers are numbers, here and below, as in `Ended` and `Found`. Machine, memory, tape and answers stand apart, as `play` and `run` are defined, and
+// as C lends them. The machine comes and goes by value: `run` gives it back in `Ended`.
+#[tactic(auto, using(crate::proofs::Turns::turns))]
 fn run_valid(m: Machine, mem: &mut [u64], tape: &[u8], answers: &mut [u8]) -> Ended
     requires mem_value { valid m (length mem.old) ≡ true }
     requires record_size_value { (first_bad read_number tape.now 0 (length tape.now / record_size)).answer ≡ 0 }
-    ensures value { result ≡ (play (reads tape.now 0 (length tape.now / record_size)) 0 m mem.old).ended }
-    ensures mem_after { mem.new ≡ (play (reads tape.now 0 (length tape.now / record_size)) 0 m mem.old).memory }
-    ensures answers_after { answers.new ≡ sets answers.old 0 (play (reads tape.now 0 (length tape.now / record_size)) 0 m mem.old).answers }
+    ensures { record { ended = result; memory = mem.new; answers = answers.new } ≡ filled answers.old 0 (play (reads tape.now 0 (length tape.now / record_size)) 0 m mem.old) }
 {
-    let mut gpr = [[0u64; GPRS]; THREADS];
-    let mut cr = [[0u8; CR_FIELDS]; THREADS];
-    let mut kgpr = [[0u64; GPRS]; THREADS];
-    let mut kcr = [[0u8; CR_FIELDS]; THREADS];
-    let mut words = [[0u64; HEAD]; THREADS];
-    let mut ix = [[0u32; PLACES]; THREADS];
-    let mut vl = [[0u64; VALUES]; THREADS];
-    rows_machines::laid(
-        &mut gpr, &mut cr, &mut kgpr, &mut kcr, &mut words, &mut ix, &mut vl, m,
-    );
-    let s = records::records(
-        &mut gpr, &mut cr, &mut kgpr, &mut kcr, &mut words, &mut ix, &mut vl, mem, m.count, tape,
-        answers,
-    );
-    let n = rows_machines::lifted(&gpr, &cr, &kgpr, &kcr, &words, &ix, &vl, m.count);
+    let mut machine = m;
+    let (records, _) = tape.as_chunks::<RECORD_SIZE>();
+    for (k, record) in records.iter().enumerate() {
+        let found = reader::read_judged(record);
+        // The reader has judged the record, so its refusal cannot come.
+        let Read::Record { thread, event } = found else {
+            return Ended {
+                answer: tape::number(found),
+                count: k,
+                index: k,
+                machine,
+            };
+        };
+        let done = step_in_place(&mut machine, mem, thread, event);
+        put(answers, k, answer::number(done));
+        if let Err(refusal) = done {
+            return Ended {
+                answer: refusal.number(),
+                count: k,
+                index: k,
+                machine,
+            };
+        }
+    }
     Ended {
-        answer: s.answer,
-        count: s.count,
-        index: s.count,
-        machine: n,
+        answer: answer::DONE,
+        count: records.len(),
+        index: records.len(),
+        machine,
     }
 }
 
 // The whole records of a tape on a machine that is valid, each read as it is reached: a bad one stops it where it stands (rule Q6). They are judged
 // first all the same, up to the first bad one, so that they are run as a tape is.
+#[tactic(auto, using(crate::proofs::Prefix::prefix))]
 pub fn play(m: Machine, mem: &mut [u64], tape: &[u8], answers: &mut [u8]) -> Ended
     requires { valid m (length mem.old) ≡ true }
     ensures value { result ≡ (play (reads tape.now 0 (length tape.now / record_size)) 0 m mem.old).ended }
@@ -57,36 +67,30 @@ pub fn play(m: Machine, mem: &mut [u64], tape: &[u8], answers: &mut [u8]) -> End
     ensures answers_after { answers.new ≡ sets answers.old 0 (play (reads tape.now 0 (length tape.now / record_size)) 0 m mem.old).answers }
 {
     let found = tape_whole::first_bad(tape);
-    let good = found.index;
-    let end = good * RECORD_SIZE;
-    let ended = run_valid(m, mem, &tape[..end], answers);
-    if ended.count != good {
+    let ended = run_valid(m, mem, &tape[..found.index * RECORD_SIZE], answers);
+    if ended.count != found.index || found.answer == answer::DONE {
         return ended;
     }
-    if found.answer == answer::DONE {
-        return ended;
-    }
-    put(answers, good, found.answer);
-    let machine = ended.machine;
+    put(answers, found.index, found.answer);
     Ended {
         answer: found.answer,
-        count: good,
-        index: good,
-        machine,
+        count: found.index,
+        index: found.index,
+        machine: ended.machine,
     }
 }
 
 // Any machine, memory and bytes may be handed in. The tests 1 and 2 come first, and then the whole tape is read, also an empty one. A bad record
 // keeps all of it from being run. The answer of record k goes to place k of answers, the stopping record's too; no other place changes.
+#[tactic(auto, using(machine::proofs::Validity::passes_valid, tape::proofs::FirstBad::all_judged), unfolding(run_rules::specs::Run::run))]
 pub fn run(m: Machine, mem: &mut [u64], tape: &[u8], answers: &mut [u8]) -> Ended
     ensures value { result ≡ (run m mem.old tape.now).ended }
     ensures mem_after { mem.new ≡ (run m mem.old tape.now).memory }
     ensures answers_after { answers.new ≡ sets answers.old 0 (run m mem.old tape.now).answers }
 {
-    let number = validity::number(m, mem.len());
-    if number != 0 {
+    if let Err(refusal) = validity::judged(&m, mem.len()) {
         return Ended {
-            answer: number,
+            answer: refusal.number(),
             count: 0,
             index: 0,
             machine: m,

@@ -1,52 +1,53 @@
-// One event on a machine by value: refused by a number with nothing changed, or done. What it does: `step_place`, on rows.
+// One event on a machine: refused with nothing changed, or done on its own thread, on memory and on the other threads.
 #![tactic(auto)]
 
 ghost use Rattle.std.specs.Prelude.{◌≡◌, true, length};
+ghost use Rattle.base.specs.Answers.{answer_of};
 ghost use Rattle.machine.specs.Valid.{valid};
-ghost use Rattle.step_rules.specs.Step.{step};
+ghost use Rattle.step_rules.specs.Step.{outcome, step};
 
-use base::{CR_FIELDS, GPRS, PLACES, THREADS};
+use base::answer::{self, Completion, Refusal};
 use event::Event;
 use machine::Machine;
-use rows::{HEAD, VALUES};
 use step_rules::Done;
 
-// The step on a valid machine, which is laid into rows and lifted out of them.
-fn step_valid(m: Machine, mem: &mut [u64], thread: u8, e: Event) -> Done
-    requires { valid m (length mem.old) ≡ true }
-    ensures value { result ≡ (step m mem.old thread e).done }
-    ensures mem_after { mem.new ≡ (step m mem.old thread e).memory }
+// The step on a machine that is known to be valid, in place: a run's machine stays so.
+#[tactic(auto, using(crate::proofs::Steps::steps))]
+pub fn step_in_place(
+    m: &mut Machine,
+    memory: &mut [u64],
+    thread: u8,
+    event: Event,
+) -> Result<Completion, Refusal>
+    requires { valid m.old (length memory.old) ≡ true }
+    ensures { outcome (answer_of result) m.new memory.new ≡ step m.old memory.old thread event }
 {
-    let mut gpr = [[0u64; GPRS]; THREADS];
-    let mut cr = [[0u8; CR_FIELDS]; THREADS];
-    let mut kgpr = [[0u64; GPRS]; THREADS];
-    let mut kcr = [[0u8; CR_FIELDS]; THREADS];
-    let mut words = [[0u64; HEAD]; THREADS];
-    let mut ix = [[0u32; PLACES]; THREADS];
-    let mut vl = [[0u64; VALUES]; THREADS];
-    rows_machines::laid(
-        &mut gpr, &mut cr, &mut kgpr, &mut kcr, &mut words, &mut ix, &mut vl, m,
-    );
-    let answer = step_place::step(
-        &mut gpr, &mut cr, &mut kgpr, &mut kcr, &mut words, &mut ix, &mut vl, mem, m.count, thread,
-        e,
-    );
-    let machine = rows_machines::lifted(&gpr, &cr, &kgpr, &kcr, &words, &ix, &vl, m.count);
-    Done { answer, machine }
+    let w = thread as usize;
+    if m.count <= w {
+        return Err(Refusal::NoThread);
+    }
+    let own = &mut m.threads[w];
+    refusal::refused(&own.control, event, memory.len())?;
+    // Its own thread goes first, then the others, by the state that it was done in.
+    let state = own.control.msr.state;
+    let went = effect::effect(own, memory, event);
+    conflict::others(&mut m.threads, w, went.touch, state);
+    Ok(went.completion)
 }
 
 // The public entry: any machine, memory, thread and event may be handed in.
+#[tactic(auto, using(crate::proofs::Steps::not_valid, machine::proofs::Validity::passes_valid))]
 pub fn step(m: Machine, mem: &mut [u64], thread: u8, e: Event) -> Done
     ensures value { result ≡ (step m mem.old thread e).done }
     ensures mem_after { mem.new ≡ (step m mem.old thread e).memory }
 {
-    let len = mem.len();
-    let number = validity::number(m, len);
-    if number != 0 {
+    if let Err(refusal) = validity::judged(&m, mem.len()) {
         return Done {
-            answer: number,
+            answer: refusal.number(),
             machine: m,
         };
     }
-    step_valid(m, mem, thread, e)
+    let mut machine = m;
+    let answer = answer::number(step_in_place(&mut machine, mem, thread, e));
+    Done { answer, machine }
 }

@@ -1,4 +1,4 @@
--- What each event that is not refused does: its answer and thread, what it touches and what it writes (rules E1 to E26). The meanings are in the crates power_*.
+-- What each event that is not refused does: its answer and thread, what it touches and what it writes (rules E1 to E26). The meanings are in power_rules.
 use Rattle.std.specs.Prelude.{ℕ, List}
 use Rattle.thread.specs.declared.Thread.{Thread}
 use Rattle.thread.specs.declared.Effect.{Effect}

@@ -1,12 +1,17 @@
 -- The first record that has a number: here, later, or none; and what is known of all records where none has one.
 use mathlib.Core.Path.{◌≡◌, refl, sym, ap, ◌∙◌}
-use mathlib.Core.Bool.{Bool, true, false, cond}
+use mathlib.Core.Bool.{Bool, true, false, not, cond}
 use mathlib.Core.Logic.{◌⊎◌, inl, inr}
-use mathlib.Core.List.{List}
+use mathlib.Core.List.{List, []}
 use Prim.Native.Nat.{ℕ, zero, suc, ◌+◌, ◌-◌, ◌/◌, ◌%◌, ◌<◌, ◌≤◌}
 use native.Mathlib.Omega.{arith}
 use lib.Dec.{eqb, ltb}
-use lib.ListN.{length}
+use lib.ListN.{length, drop, get_or}
+use Rattle.std.proofs.Common.{Option, Some, None, drop-drop, ◌*◌}
+use Rattle.std.specs.Simd.{first_chunks}
+use Rattle.std.specs.List.{position_from, position}
+use Rattle.std.proofs.lemmas.Iterator.Adapters.{position_from-zero}
+use Rattle.std.proofs.lemmas.List.Quantifiers.{position-Some}
 use borrow.Author.Tests.{eq-eqb, ne_eqb, eqb-true, eqb-false, ltb-true, ltb-false}
 use Rattle.tape.specs.Tape.{record_size, record_at}
 use Rattle.tape.specs.FirstBad.{found, first_bad, read_number, bad_record}
@@ -81,6 +86,70 @@ module _ (f : List ℕ → ℕ) (tape : List ℕ) where
           let r = rest b in
           (omega (arith, r.0), r.1, λ i lo hi. before k i (first_bad f tape (k + 1) n).index (eqb-true _ 0 p) r.2 lo hi)
       go false p rest b = (omega arith, refl, λ i lo hi. absurd (omega arith))
+
+-- the same by its place among the records as the code takes them
+abbrev bad : (List ℕ → ℕ) → List ℕ → Bool
+bad f r = not (eqb (f r) 0)
+
+abbrev found_at : (List ℕ → ℕ) → List ℕ → ℕ → Option ℕ → Found
+found_at f tape n (Some i) = found (f (record_at tape i)) i
+found_at f tape n None = found 0 n
+
+from_place : (f : List ℕ → ℕ) (tape : List ℕ) (n k : ℕ)
+    → first_bad f tape k n ≡ found_at f tape (k + n) (position_from (bad f) k (first_chunks record_size n (drop (record_size * k) tape)))
+unfolding first_bad
+from_place f tape zero k = let e : k ≡ k + 0 = omega arith in ap (found 0) e
+from_place f tape (suc n) k =
+    let a : k + 1 + n ≡ k + suc n = omega arith in
+    let b : record_size * (k + 1) ≡ record_size * k + record_size = omega arith in
+    let c : drop (record_size * (k + 1)) tape ≡ drop record_size (drop (record_size * k) tape) = ap (λ (j : ℕ). drop j tape) b ∙ sym (drop-drop record_size (record_size * k) tape) in
+    let o = position_from (bad f) (k + 1) (first_chunks record_size n (drop record_size (drop (record_size * k) tape))) in
+    go (eqb (f (record_at tape k)) 0) refl o (from_place f tape n (k + 1) ∙ (λ j. found_at f tape (a j) (position_from (bad f) (k + 1) (first_chunks record_size n (c j)))))
+  where
+    go : (b : Bool) → eqb (f (record_at tape k)) 0 ≡ b
+        → {x : Found} (o : Option ℕ) → x ≡ found_at f tape (k + suc n) o
+        → cond (eqb (f (record_at tape k)) 0) x (found (f (record_at tape k)) k) ≡ found_at f tape (k + suc n) (cond (not (eqb (f (record_at tape k)) 0)) (Some k) o)
+    go true p o e = simp p e
+    go false p o e = simp p
+
+-- a record of a tape as the code takes it
+chunk_from : (tape : List ℕ) (n k i : ℕ) → i < n → get_or (first_chunks record_size n (drop (record_size * k) tape)) i [] ≡ record_at tape (k + i)
+chunk_from tape zero k i h = absurd (omega arith)
+chunk_from tape (suc n) k zero h = let e : k ≡ k + 0 = omega arith in ap (record_at tape) e
+chunk_from tape (suc n) k (suc i) h =
+    let e : k + 1 + i ≡ k + suc i = omega arith in
+    let b : record_size * k + record_size ≡ record_size * (k + 1) = omega arith in
+    (λ j. get_or (first_chunks record_size n ((drop-drop record_size (record_size * k) tape ∙ ap (λ (m : ℕ). drop m tape) b) j)) i [])
+    ∙ chunk_from tape n (k + 1) i (omega arith) ∙ ap (record_at tape) e
+
+pub chunk_is : (tape : List ℕ) (n i : ℕ) → i < n → get_or (first_chunks record_size n tape) i [] ≡ record_at tape i
+chunk_is tape n i h = let e : 0 + i ≡ i = omega arith in chunk_from tape n 0 i h ∙ ap (record_at tape) e
+
+length_chunks : (n : ℕ) (tape : List ℕ) → length (first_chunks record_size n tape) ≡ n
+length_chunks zero tape = refl
+length_chunks (suc n) tape = ap suc (length_chunks n (drop record_size tape))
+
+-- what is found by the place of the first bad record
+abbrev pub placed : (List ℕ → ℕ) → List (List ℕ) → Option ℕ → Found
+placed f rs (Some i) = found (f (get_or rs i [])) i
+placed f rs None = found 0 (length rs)
+
+pub by_place : (f : List ℕ → ℕ) (tape : List ℕ) (n : ℕ)
+    → let rs = first_chunks record_size n tape in first_bad f tape 0 n ≡ placed f rs (position (λ r. not (eqb (f r) 0)) rs)
+by_place f tape n =
+    let a : 0 + n ≡ n = omega arith in
+    from_place f tape n 0
+    ∙ ap (λ (m : ℕ). found_at f tape m (position_from (bad f) 0 rs)) a
+    ∙ ap (found_at f tape n) (sym (position_from-zero (bad f) rs)) ∙ go (position (bad f) rs) refl
+  where
+    rs : List (List ℕ)
+    rs = first_chunks record_size n tape
+
+    go : (o : Option ℕ) → position (bad f) rs ≡ o → found_at f tape n o ≡ placed f rs o
+    go (Some i) p =
+        let h : i < n = let q = (position-Some (bad f) rs i [] p).0 in let l = length_chunks n tape in omega arith in
+        ap (λ (r : List ℕ). found (f r) i) (sym (chunk_is tape n i h))
+    go None p = ap (found 0) (sym (length_chunks n tape))
 
 -- the records up to the one that is found have no number; it stands among all, or behind them where none is bad
 pub up_to : (f : List ℕ → ℕ) (tape : List ℕ) (n : ℕ) → let x = first_bad f tape 0 n in

@@ -34,15 +34,11 @@ pub kind_high : (k : ℕ) → 26 < k → kind_right k ≡ false
 unfolding kind_right
 kind_high k h = let l : 1 ≤ k = omega arith in simp (le-leb 1 k l, lt-leb k 26 h)
 
--- fields of a kind are judged by its row, and others are refused
+-- fields of a kind are judged by its row
 pub of_a_kind : (f : Fields) (zero : Bool) (r : Read) → kind_right f.kind ≡ true
     → r ≡ judged f (zero && unused_clear (row f.kind) f) → r ≡ of_kind f zero
 unfolding of_kind
 of_a_kind f zero r h p = p ∙ simp h
-
-pub of_no_kind : (f : Fields) (zero : Bool) → kind_right f.kind ≡ false → Refused 8 ≡ of_kind f zero
-unfolding of_kind
-of_no_kind f zero h = simp h
 
 -- a record that has no number is of the right length, and its fields tell its thread and its event
 pub taken : (bs : List ℕ) → number (read bs) ≡ 0 → (length bs ≡ record_size) × (read bs ≡ Record (fields_at bs).thread (event_of (fields_at bs)))

@@ -1,8 +1,10 @@
 -- One record of 16 bytes, read and written (rules T1 to T7).
-use Rattle.std.specs.Prelude.{ℕ, ◌+◌, ◌*◌, ◌/◌, ◌%◌, Bool, not, cond, ◌&&◌, ◌||◌, List, [], ◌∷◌, length, take, drop, nat_le, nat_lt, slice_index, ◌==◌}
+use Rattle.std.specs.Prelude.{ℕ, ◌+◌, ◌*◌, ◌/◌, ◌%◌, Bool, not, cond, ◌&&◌, ◌||◌, List, [], ◌∷◌, length, take, drop, nat_le, nat_lt, slice_index, ◌==◌, Result, Ok, Err}
 use Rattle.std.proofs.Math.Option.{Option, some, none}
 use Rattle.std.proofs.lemmas.List.Edits.{sets}
 use Rattle.base.specs.Answers as answer
+use Rattle.base.specs.Answers.{refusal_number}
+use Rattle.base.specs.declared.answer.Refusal.{Refusal}
 use Rattle.event.specs.declared.Event.{Event}
 use Rattle.event.specs.declared.Fields.{Fields}
 use Rattle.kinds.specs.declared.Row.{Row}
@@ -46,6 +48,10 @@ fields_at bs =
       si = two (byte bs 12) (byte bs 13);
     }
 
+-- number 7, or 0
+abbrev pub marked : List ℕ → ℕ
+marked bs = cond (byte bs 0 == first_byte) answer.done answer.bad_first_byte
+
 abbrev pub fixed_zero : List ℕ → Bool
 fixed_zero bs = (byte bs 7 == 0) && (byte bs 14 == 0) && (byte bs 15 == 0)
 
@@ -85,9 +91,22 @@ abbrev pub values : Read → Option (ℕ × Event)
 values (Record w e) = some (w, e)
 values (Refused n) = none
 
+-- a reader by what an edition has of its own: the number of what its first bytes are refused by, or 0; the fields; whether the fixed bytes are 0
+abbrev pub read_by : (marked : List ℕ → ℕ) (at : List ℕ → Fields) (zero : List ℕ → Bool) → List ℕ → Read
+read_by marked at zero bs =
+    cond (not (length bs == record_size)) (Refused answer.tape_length)
+    (cond (not (marked bs == 0)) (Refused (marked bs)) (of_kind (at bs) (zero bs)))
+
 -- the writer: number 10 for a buffer under 16 bytes, which stays; else the first 16 bytes
 unfoldable pub write_answer : List ℕ → ℕ
 write_answer buf = cond (nat_lt (length buf) record_size) answer.short_buffer answer.done
 
 unfoldable pub write : ℕ → Event → List ℕ → List ℕ
 write w e buf = cond (nat_lt (length buf) record_size) buf (sets buf 0 (bytes (fields_of w e)))
+
+-- a writer by what an edition has of its own: the number of an event that it has no record for, or 0; the bytes of fields
+abbrev pub write_answer_by : (no_record : ℕ → Event → ℕ) → ℕ → Event → List ℕ → ℕ
+write_answer_by no_record w e buf = cond (no_record w e == 0) (write_answer buf) (no_record w e)
+
+abbrev pub write_by : (no_record : ℕ → Event → ℕ) (to_bytes : Fields → List ℕ) → ℕ → Event → List ℕ → List ℕ
+write_by no_record to_bytes w e buf = cond (write_answer_by no_record w e buf == 0) (sets buf 0 (to_bytes (fields_of w e))) buf

@@ -1,2 +1,2 @@
-mod Limits
+mod Bounds
 mod Words

@@ -12,7 +12,7 @@ use Rattle.base.specs.Below.{all_below}
 use Rattle.base.proofs.Below.{all_at, and_left, and_right}
 use Rattle.tape.specs.Tape.{byte, four}
 use Rattle.tape_limits.specs.Inner.{word, covered, ones, masks, within}
-use Rattle.tape_limits.proofs.Limits.{both, agree}
+use Rattle.tape_limits.proofs.Bounds.{both, agree}
 
 -- ---- a byte and its limit, by computation
 

@@ -6,8 +6,8 @@ ghost use Rattle.tape.specs.Tape.{record_size};
 ghost use Rattle.tape.specs.FirstBad.{read_number, first_bad, bad_record};
 
 use base::answer;
-use tape::{Found, RECORD_SIZE, reader};
-use tape_limits::{KINDS, good};
+use tape::{Found, RECORD_SIZE, reader, records};
+use tape_limits::{KINDS, Limits};
 
 // The largest value of each byte of a record, by the fields that its kind uses: any value where a byte is used, the largest flags of the row, and 0
 // where nothing may stand. First byte, kind and thread are judged elsewhere.
@@ -44,40 +44,31 @@ const LIMITS: [[u8; RECORD_SIZE]; KINDS] = [
     INDEX,
 ];
 
-// The first record that the reader refuses.
+// The first record that the reader refuses. Answers are numbers, as in `Found`.
+#[tactic(auto, unfolding(tape_limits::specs::Inner::table, tape_limits::specs::Inner::limits, kinds::specs::Rows::rows))]
 pub fn first_bad(tape: &[u8]) -> Found
     ensures { result ≡ first_bad read_number tape.now 0 (length tape.now / record_size) }
 {
     // The table is laid out once: where a constant is read by an index it is laid out anew.
-    let limits = LIMITS;
-    let n = tape.len() / RECORD_SIZE;
-    let mut k: usize = 0;
-    while k < n {
-        let at = k * RECORD_SIZE;
-        let end = at + RECORD_SIZE;
-        if !good(&tape[at..end], &limits) {
-            return Found {
-                answer: tape::number(reader::read(&tape[at..end])),
-                index: k,
-            };
+    let limits = Limits { table: LIMITS };
+    records::first_bad(tape, |record| {
+        if limits.good(record) {
+            answer::DONE
+        } else {
+            tape::number(reader::read(record))
         }
-        k += 1;
-    }
-    Found {
-        answer: answer::DONE,
-        index: k,
-    }
+    })
 }
 
 // Number 6 with the number of whole records, or the first record that is refused, or 0 and the number of records.
+#[tactic(auto, unfolding(tape::specs::FirstBad::bad_record))]
 pub fn bad_record(tape: &[u8]) -> Found
     ensures { result ≡ bad_record tape.now }
 {
-    let n = tape.len();
-    if n % RECORD_SIZE != 0 {
+    if tape.len() % RECORD_SIZE != 0 {
         return Found {
             answer: answer::TAPE_LENGTH,
-            index: n / RECORD_SIZE,
+            index: tape.len() / RECORD_SIZE,
         };
     }
     first_bad(tape)

@@ -3,59 +3,48 @@
 
 ghost use Rattle.std.specs.Prelude.{◌≡◌, ◌+◌, ◌≤◌, length};
 ghost use Rattle.std.proofs.lemmas.List.Edits.{sets};
-ghost use Rattle.tape.specs.Tape.{record_size, bytes, write_answer, write};
+ghost use Rattle.base.specs.Answers.{judgement_number};
+ghost use Rattle.tape.specs.Tape.{bytes, write_answer, write_answer_by, write_by, write};
 
-use base::answer;
+use base::answer::{self, Refusal};
 use event::{Event, Fields};
-use tape::{FIRST_BYTE, RECORD_SIZE};
+use tape::RECORD_SIZE;
+use tape::layout::{Layout, Three};
 
 // The record's bytes.
 pub fn bytes(f: Fields) -> [u8; RECORD_SIZE]
     ensures { result ≡ bytes f }
 {
-    let index = f.index;
-    let si = f.si;
-    [
-        FIRST_BYTE,
-        f.kind,
-        f.thread,
-        f.x,
-        f.ra,
-        f.rb,
-        f.flags,
-        0,
-        (index / 256 / 256 / 256 % 256) as u8,
-        (index / 256 / 256 % 256) as u8,
-        (index / 256 % 256) as u8,
-        (index % 256) as u8,
-        (si / 256 % 256) as u8,
-        (si % 256) as u8,
-        0,
-        0,
-    ]
+    Three::bytes(f)
 }
 
-// A record's bytes at a place of the buffer, whatever their layout.
+// A record's bytes at a place of the buffer, whatever their layout. A place and a slice: both lone records and tapes are written by it.
 pub fn put(buf: &mut [u8], at: usize, src: &[u8])
     requires { at + length src.now ≤ length buf.old }
     ensures { buf.new ≡ sets buf.old at src.now }
 {
-    let mut i = 0;
-    while i < src.len() {
-        buf[at + i] = src[i];
-        i += 1;
-    }
+    buf[at..at + src.len()].copy_from_slice(src);
 }
 
-// A lone record. Refused by 10 alone, with the buffer unchanged; only the first 16 bytes are touched.
+// A lone record of an edition. Refused where that has none, then by 10, with the buffer unchanged; only the first 16 bytes are touched.
+#[tactic(auto, unfolding(tape::specs::Tape::write_answer))]
+pub fn write_as<L: Layout>(thread: u8, e: Event, buf: &mut [u8]) -> Result<(), Refusal>
+    ensures value { judgement_number result ≡ write_answer_by L.no_record thread e buf.old }
+    ensures buf_after { buf.new ≡ write_by L.no_record L.bytes thread e buf.old }
+{
+    L::has_record(thread, e)?;
+    if buf.len() < RECORD_SIZE {
+        return Err(Refusal::ShortBuffer);
+    }
+    put(buf, 0, &L::bytes(event::fields_of(thread, e)));
+    Ok(())
+}
+
+// A lone record of this version's tape. Refused by 10 alone. The answer is a number, as C gets it (`naszeptan_write`).
+#[tactic(auto, unfolding(tape::specs::Tape::write_answer, tape::specs::Tape::write))]
 pub fn write(thread: u8, e: Event, buf: &mut [u8]) -> u8
     ensures value { result ≡ write_answer buf.old }
     ensures buf_after { buf.new ≡ write thread e buf.old }
 {
-    if buf.len() < RECORD_SIZE {
-        return answer::SHORT_BUFFER;
-    }
-    let record = bytes(event::fields_of(thread, e));
-    put(buf, 0, &record);
-    answer::DONE
+    answer::judgement(write_as::<Three>(thread, e, buf))
 }

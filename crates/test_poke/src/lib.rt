@@ -17,9 +17,8 @@
 
 pub mod text;
 
-use lines::LineSet;
 use machine::Machine;
-use thread::{Control, Failure, Msr, Registers, Saved, State, Thread};
+use thread::{State, Thread};
 use transaction::{Entry, Transaction};
 
 // A machine, and how many doublewords of the memory beside it are lent.
@@ -29,6 +28,10 @@ pub struct World {
     pub lent: usize,
 }
 
+// The marks of all bytes of a place.
+const ALL: u8 = 255;
+
+// Any number above 1 is S: the vectors have it so.
 fn state(v: u64) -> State {
     match v {
         0 => State::N,
@@ -37,7 +40,7 @@ fn state(v: u64) -> State {
     }
 }
 
-// The low byte, and the low 32 bits.
+// A value's low byte, and its low half: two types, a line each. A trait for both would be longer.
 fn low_byte(v: u64) -> u8 {
     (v % 0x100) as u8
 }
@@ -46,251 +49,80 @@ fn low_half(v: u64) -> u32 {
     (v % 0x1_0000_0000) as u32
 }
 
-fn gpr(r: Registers, i: usize, v: u64) -> Registers {
-    let mut s = r;
-    if i < 32 {
-        s.gpr[i] = v;
+// A value at a place of a list, if there is such a place. As `buffer::put`, for any type and without a promise: so `get_mut` does.
+fn put<T: Copy>(list: &mut [T], i: usize, v: T) {
+    if let Some(place) = list.get_mut(i) {
+        *place = v;
     }
-    s
-}
-
-// CR fields 1 to 7.
-fn cr(r: Registers, field: usize, v: u64) -> Registers {
-    let mut s = r;
-    if 1 <= field {
-        if field <= 7 {
-            s.cr[field - 1] = low_byte(v);
-        }
-    }
-    s
-}
-
-fn live_cr(t: Thread, field: usize, v: u64) -> Thread {
-    let mut u = t;
-    if field == 0 {
-        u.cr0 = low_byte(v);
-        return u;
-    }
-    let r = cr(t.live, field, v);
-    u.live = r;
-    u
-}
-
-fn failure(f: Failure, field: u8, v: u64) -> Failure {
-    let mut g = f;
-    if field == 12 {
-        g.tfhar = v;
-    }
-    if field == 13 {
-        g.tfiar = v;
-    }
-    if field == 14 {
-        g.texasr = v;
-    }
-    g
-}
-
-fn saved(s: Saved, field: u8, v: u64) -> Saved {
-    let mut r = s;
-    if field == 21 {
-        r.srr0 = v;
-    }
-    if field == 22 {
-        r.srr1 = v;
-    }
-    r
-}
-
-fn msr(m: Msr, field: u8, v: u64) -> Msr {
-    let mut n = m;
-    if field == 8 {
-        n.pr = v == 1;
-    }
-    if field == 9 {
-        n.tm = v == 1;
-    }
-    if field == 11 {
-        n.doomed = v == 1;
-    }
-    n
-}
-
-fn control(k: Control, field: u8, v: u64) -> Control {
-    let mut c = k;
-    let m = k.msr;
-    if field == 7 {
-        c.nia = v;
-        return c;
-    }
-    if field == 10 {
-        return thread::in_state(k, state(v), m.doomed);
-    }
-    let n = msr(m, field, v);
-    let f = failure(k.failure, field, v);
-    let s = saved(k.saved, field, v);
-    c.msr = n;
-    c.failure = f;
-    c.saved = s;
-    c
-}
-
-fn word(s: LineSet, i: usize, v: u64) -> LineSet {
-    let mut r = s;
-    if i < 4 {
-        r.words[i] = v;
-    }
-    r
-}
-
-fn log(x: Transaction, i: usize, index: u32, marks: u8, value: u64) -> Transaction {
-    let mut y = x;
-    if i < 64 {
-        y.log[i] = Entry {
-            index,
-            marks,
-            value,
-        };
-    }
-    y
-}
-
-fn entry(x: Transaction, field: u8, i: usize, v: u64) -> Transaction {
-    if 64 <= i {
-        return x;
-    }
-    let e = x.log[i];
-    if field == 18 {
-        return log(x, i, low_half(v), 255, e.value);
-    }
-    if field == 19 {
-        return log(x, i, e.index, 255, v);
-    }
-    log(x, i, e.index, low_byte(v), e.value)
 }
 
 // A log of n places, from an index on.
-fn run(x: Transaction, n: usize, from: u64, v: u64) -> Transaction {
-    let mut y = x;
-    for i in 0..n {
-        let z = log(
-            y,
-            i,
-            low_half(std::num::wrapping_add_u64(from, i as u64)),
-            255,
-            v,
-        );
-        y = z;
-    }
-    y.count = n;
-    y
-}
-
-fn held(x: Transaction, field: u8, i: usize, v: u64) -> Transaction {
-    let mut y = x;
-    if field == 15 {
-        let s = word(x.reads, i, v);
-        y.reads = s;
-        return y;
-    }
-    if field == 16 {
-        let s = word(x.writes, i, v);
-        y.writes = s;
-        return y;
-    }
-    if field == 17 {
-        y.count = v as usize;
-        return y;
-    }
-    entry(x, field, i, v)
-}
-
-// The registers, CR and control fields, and what the transaction holds.
-fn registers(t: Thread, field: u8, i: usize, v: u64) -> Thread {
-    let mut u = t;
-    if field == 3 {
-        let r = gpr(t.live, i, v);
-        u.live = r;
-        return u;
-    }
-    if field == 4 {
-        let r = gpr(t.checkpoint, i, v);
-        u.checkpoint = r;
-        return u;
-    }
-    if field == 5 {
-        return live_cr(t, i, v);
-    }
-    let r = cr(t.checkpoint, i, v);
-    u.checkpoint = r;
-    u
-}
-
-fn thread(t: Thread, b: [u8; 16], v: u64) -> Thread {
-    let field = b[1];
-    let i = b[3] as usize;
-    if field < 7 {
-        return registers(t, field, i, v);
-    }
-    let mut u = t;
-    if (field < 15) | ((20 < field) & (field != 23)) {
-        let k = control(t.control, field, v);
-        u.control = k;
-        return u;
-    }
-    let x = t.transaction;
-    if field != 20 {
-        let y = held(x, field, i, v);
-        u.transaction = y;
-        return u;
-    }
-    let y = run(x, i, text::number(b, 4, 8), v);
-    u.transaction = y;
-    u
-}
-
-fn threads(m: Machine, b: [u8; 16], v: u64) -> Machine {
-    let w = b[2] as usize;
-    let mut n = m;
-    if w < 4 {
-        let t = m.threads[w];
-        let u = thread(t, b, v);
-        n.threads[w] = u;
-    }
-    n
-}
-
-fn doubleword(mem: &mut [u64], i: u64, v: u64) {
-    let at = i as usize;
-    if at < mem.len() {
-        mem[at] = v;
+fn fill(x: &mut Transaction, n: usize, from: u64, value: u64) {
+    x.count = n;
+    for (k, e) in x.log.iter_mut().enumerate() {
+        if k < n {
+            *e = Entry {
+                index: low_half(from.wrapping_add(k as u64)),
+                marks: ALL,
+                value,
+            };
+        }
     }
 }
 
-fn count(m: Machine, v: u64) -> Machine {
-    let mut n = m;
-    n.count = v as usize;
-    n
+// One field of a place of the log, by its number in the list above.
+fn entry(e: &mut Entry, field: u8, v: u64) {
+    e.marks = ALL;
+    match field {
+        18 => e.index = low_half(v),
+        19 => e.value = v,
+        _ => e.marks = low_byte(v),
+    }
 }
 
-pub fn poke(w: World, mem: &mut [u64], b: [u8; 16]) -> World {
-    let v = text::number(b, 8, 16);
-    let lent = w.lent;
-    let m = w.machine;
-    let field = b[1];
-    if field == 0 {
-        let machine = count(m, v);
-        return World { machine, lent };
+// A thread's field, by its number in the list above, at place i where it has places.
+fn thread(t: &mut Thread, field: u8, i: usize, index: u64, v: u64) {
+    match field {
+        3 => put(&mut t.live.gpr, i, v),
+        4 => put(&mut t.checkpoint.gpr, i, v),
+        5 if i == 0 => t.cr0 = low_byte(v),
+        5 => put(&mut t.live.cr, i - 1, low_byte(v)),
+        6 if i == 0 => {}
+        6 => put(&mut t.checkpoint.cr, i - 1, low_byte(v)),
+        7 => t.control.nia = v,
+        8 => t.control.msr.pr = v == 1,
+        9 => t.control.msr.tm = v == 1,
+        10 => t.control.msr.state = state(v),
+        11 => t.control.msr.doomed = v == 1,
+        12 => t.control.failure.tfhar = v,
+        13 => t.control.failure.tfiar = v,
+        14 => t.control.failure.texasr = v,
+        15 => put(&mut t.transaction.reads.words, i, v),
+        16 => put(&mut t.transaction.writes.words, i, v),
+        17 => t.transaction.count = v as usize,
+        18 | 19 | 23 => {
+            if let Some(e) = t.transaction.log.get_mut(i) {
+                entry(e, field, v);
+            }
+        }
+        20 => fill(&mut t.transaction, i, index, v),
+        21 => t.control.saved.srr0 = v,
+        22 => t.control.saved.srr1 = v,
+        _ => {}
     }
-    if field == 1 {
-        return World {
-            machine: m,
-            lent: v as usize,
-        };
+}
+
+pub fn poke(w: &mut World, mem: &mut [u64], b: &[u8; 16]) {
+    let index = text::number(&b[4..8]);
+    let v = text::number(&b[8..]);
+    match b[1] {
+        0 => w.machine.count = v as usize,
+        1 => w.lent = v as usize,
+        2 => put(mem, index as usize, v),
+        field => {
+            if let Some(t) = w.machine.threads.get_mut(b[2] as usize) {
+                thread(t, field, b[3] as usize, index, v);
+            }
+        }
     }
-    if field == 2 {
-        doubleword(mem, text::number(b, 4, 8), v);
-        return w;
-    }
-    let machine = threads(m, b, v);
-    World { machine, lent }
 }

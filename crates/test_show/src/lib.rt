@@ -10,135 +10,130 @@
 // Memory follows as mem[I]=HEX, and the thread count as count=HEX.
 #![tactic(auto)]
 
-use base::bit;
-use lines::LineSet;
+use base::THREADS;
 use machine::Machine;
-use std::io;
-use std::io::Write;
-use thread::{Control, Registers, State, Thread};
+use std::fmt;
+use thread::{Control, Thread};
 use transaction::{Entry, Transaction};
 
-// A field of thread w, where it is not as in a fresh thread.
-fn field<W: Write>(out: &mut W, w: usize, name: &str, v: u64, fresh: u64) -> io::Result<()> {
+// A machine, and the memory beside it.
+#[derive(Clone, Copy)]
+pub struct Shown<'a> {
+    pub machine: &'a Machine,
+    pub memory: &'a [u64],
+}
+
+impl fmt::Display for Shown<'_> {
+    fn fmt<W: fmt::Write>(&self, f: &mut fmt::Formatter<W>) -> fmt::Result {
+        for (w, t) in self.machine.threads.iter().enumerate() {
+            thread(f, w, t)?;
+        }
+        for (i, v) in self.memory.iter().enumerate() {
+            if *v != 0 {
+                write!(f, " mem[{i}]={v:x}")?;
+            }
+        }
+        if self.machine.count != THREADS {
+            write!(f, " count={:x}", self.machine.count)?;
+        }
+        Ok(())
+    }
+}
+
+// A field of thread w, where it is not as in a fresh thread. It and `place` are one `write!` each: one function of both would take an Option of a
+// place and a fresh value besides.
+fn field<W: fmt::Write>(
+    f: &mut fmt::Formatter<W>,
+    w: usize,
+    name: &str,
+    v: u64,
+    fresh: u64,
+) -> fmt::Result {
     if v == fresh {
         return Ok(());
     }
-    write!(out, " t{w}.{name}={v:x}")
+    write!(f, " t{w}.{name}={v:x}")
 }
 
-// A field at a place, where it is not 0.
-fn place<W: Write>(out: &mut W, w: usize, name: &str, i: usize, v: u64) -> io::Result<()> {
+// The same with the place behind the name, where it is not 0.
+fn place<W: fmt::Write>(
+    f: &mut fmt::Formatter<W>,
+    w: usize,
+    name: &str,
+    i: usize,
+    v: u64,
+) -> fmt::Result {
     if v == 0 {
         return Ok(());
     }
-    write!(out, " t{w}.{name}{i}={v:x}")
+    write!(f, " t{w}.{name}{i}={v:x}")
 }
 
-fn gprs<W: Write>(out: &mut W, w: usize, name: &str, r: &Registers) -> io::Result<()> {
-    for i in 0..32 {
-        place(out, w, name, i, r.gpr[i])?;
+// General registers, or the words of a line set.
+fn places<W: fmt::Write>(
+    f: &mut fmt::Formatter<W>,
+    w: usize,
+    name: &str,
+    values: &[u64],
+) -> fmt::Result {
+    for (i, v) in values.iter().enumerate() {
+        place(f, w, name, i, *v)?;
     }
     Ok(())
 }
 
-// CR fields 1 to 7.
-fn crs<W: Write>(out: &mut W, w: usize, name: &str, r: &Registers) -> io::Result<()> {
-    for i in 0..7 {
-        place(out, w, name, i + 1, u64::from(r.cr[i]))?;
+// CR fields 1 to 7: bytes, and counted from 1. One function of these and `places` would take the first number and a closure to u64.
+fn crs<W: fmt::Write>(
+    f: &mut fmt::Formatter<W>,
+    w: usize,
+    name: &str,
+    fields: &[u8; 7],
+) -> fmt::Result {
+    for (i, v) in fields.iter().enumerate() {
+        place(f, w, name, i + 1, u64::from(*v))?;
     }
     Ok(())
 }
 
-fn state(s: State) -> u64 {
-    match s {
-        State::N => 0,
-        State::T => 1,
-        State::S => 2,
-    }
-}
-
-fn control<W: Write>(out: &mut W, w: usize, k: &Control) -> io::Result<()> {
-    let m = k.msr;
-    let f = k.failure;
-    let v = k.saved;
-    field(out, w, "nia", k.nia, 0)?;
-    field(out, w, "pr", bit(m.pr), 1)?;
-    field(out, w, "tm", bit(m.tm), 1)?;
-    field(out, w, "state", state(m.state), 0)?;
-    field(out, w, "doomed", bit(m.doomed), 0)?;
-    field(out, w, "tfhar", f.tfhar, 0)?;
-    field(out, w, "tfiar", f.tfiar, 0)?;
-    field(out, w, "texasr", f.texasr, 0)?;
-    field(out, w, "srr0", v.srr0, 0)?;
-    field(out, w, "srr1", v.srr1, 0)
-}
-
-fn words<W: Write>(out: &mut W, w: usize, name: &str, s: &LineSet) -> io::Result<()> {
-    for i in 0..4 {
-        place(out, w, name, i, s.words[i])?;
-    }
-    Ok(())
+fn control<W: fmt::Write>(f: &mut fmt::Formatter<W>, w: usize, k: &Control) -> fmt::Result {
+    field(f, w, "nia", k.nia, 0)?;
+    field(f, w, "pr", u64::from(k.msr.pr), 1)?;
+    field(f, w, "tm", u64::from(k.msr.tm), 1)?;
+    field(f, w, "state", k.msr.state as u64, 0)?;
+    field(f, w, "doomed", u64::from(k.msr.doomed), 0)?;
+    field(f, w, "tfhar", k.failure.tfhar, 0)?;
+    field(f, w, "tfiar", k.failure.tfiar, 0)?;
+    field(f, w, "texasr", k.failure.texasr, 0)?;
+    field(f, w, "srr0", k.saved.srr0, 0)?;
+    field(f, w, "srr1", k.saved.srr1, 0)
 }
 
 // The marks of a place, unless all bytes are marked. Marks that are 0 are shown where the place holds anything else.
-fn marks<W: Write>(out: &mut W, w: usize, i: usize, e: Entry) -> io::Result<()> {
-    if e.marks == 255 {
+fn marks<W: fmt::Write>(f: &mut fmt::Formatter<W>, w: usize, i: usize, e: &Entry) -> fmt::Result {
+    if e.marks == 255 || e.marks == 0 && e.index == 0 && e.value == 0 {
         return Ok(());
     }
-    if (e.marks == 0) & (e.index == 0) & (e.value == 0) {
-        return Ok(());
-    }
-    let v = e.marks;
-    write!(out, " t{w}.marks{i}={v:x}")
+    write!(f, " t{w}.marks{i}={:x}", e.marks)
 }
 
-fn log<W: Write>(out: &mut W, w: usize, x: &Transaction) -> io::Result<()> {
-    for i in 0..64 {
-        let e = x.log[i];
-        place(out, w, "index", i, u64::from(e.index))?;
-        marks(out, w, i, e)?;
-        place(out, w, "value", i, e.value)?;
+fn transaction<W: fmt::Write>(f: &mut fmt::Formatter<W>, w: usize, x: &Transaction) -> fmt::Result {
+    places(f, w, "reads", &x.reads.words)?;
+    places(f, w, "writes", &x.writes.words)?;
+    field(f, w, "used", x.count as u64, 0)?;
+    for (i, e) in x.log.iter().enumerate() {
+        place(f, w, "index", i, u64::from(e.index))?;
+        marks(f, w, i, e)?;
+        place(f, w, "value", i, e.value)?;
     }
     Ok(())
 }
 
-fn transaction<W: Write>(out: &mut W, w: usize, x: &Transaction) -> io::Result<()> {
-    words(out, w, "reads", &x.reads)?;
-    words(out, w, "writes", &x.writes)?;
-    field(out, w, "used", x.count as u64, 0)?;
-    log(out, w, x)
-}
-
-fn thread<W: Write>(out: &mut W, w: usize, t: &Thread) -> io::Result<()> {
-    gprs(out, w, "r", &t.live)?;
-    field(out, w, "cr0", u64::from(t.cr0), 0)?;
-    crs(out, w, "cr", &t.live)?;
-    gprs(out, w, "saved_r", &t.checkpoint)?;
-    crs(out, w, "saved_cr", &t.checkpoint)?;
-    control(out, w, &t.control)?;
-    transaction(out, w, &t.transaction)
-}
-
-pub fn machine<W: Write>(out: &mut W, m: &Machine) -> io::Result<()> {
-    for w in 0..4 {
-        thread(out, w, &m.threads[w])?;
-    }
-    Ok(())
-}
-
-pub fn memory<W: Write>(out: &mut W, mem: &[u64]) -> io::Result<()> {
-    for i in 0..mem.len() {
-        let v = mem[i];
-        if v != 0 {
-            write!(out, " mem[{i}]={v:x}")?;
-        }
-    }
-    Ok(())
-}
-
-pub fn count<W: Write>(out: &mut W, n: usize) -> io::Result<()> {
-    if n == 4 {
-        return Ok(());
-    }
-    write!(out, " count={n:x}")
+fn thread<W: fmt::Write>(f: &mut fmt::Formatter<W>, w: usize, t: &Thread) -> fmt::Result {
+    places(f, w, "r", &t.live.gpr)?;
+    field(f, w, "cr0", u64::from(t.cr0), 0)?;
+    crs(f, w, "cr", &t.live.cr)?;
+    places(f, w, "saved_r", &t.checkpoint.gpr)?;
+    crs(f, w, "saved_cr", &t.checkpoint.cr)?;
+    control(f, w, &t.control)?;
+    transaction(f, w, &t.transaction)
 }

@@ -11,70 +11,75 @@ use std::io;
 use std::io::Write;
 use tape::Read;
 use test_poke::World;
+use test_show::Shown;
 
-// The doublewords that can be lent: a line more than a memory may have.
+// The doublewords that can be lent: a line more than a memory may have. An array, lent to the step as a host lends it.
 pub const MEMORY: usize = 4112;
 
+// The digits of an item.
+const ITEM: usize = 32;
+
 // A record read and its event stepped, on the part of memory that is lent. No event is done where more is lent than there is.
-fn record<W: Write>(out: &mut W, w: World, mem: &mut [u64], b: [u8; 16]) -> io::Result<World> {
-    let found = tape::reader::read(&b);
+// By `write!` and `Display`, here and in `items`: a line is the vectors' own form, and no value's.
+fn record<W: Write>(out: &mut W, w: &mut World, mem: &mut [u64], b: &[u8; 16]) -> io::Result<()> {
+    let found = tape::reader::read(b);
     let Read::Record { thread, event } = found else {
-        write!(out, " {}", tape::number(found))?;
-        return Ok(w);
+        return write!(out, " {}", tape::number(found));
     };
-    let lent = w.lent;
-    if mem.len() < lent {
-        return Ok(w);
+    if mem.len() < w.lent {
+        return Ok(());
     }
-    let done = step::step(w.machine, &mut mem[..lent], thread, event);
-    write!(out, " {}", done.answer)?;
-    Ok(World {
-        machine: done.machine,
-        lent,
-    })
+    let done = step::step(w.machine, &mut mem[..w.lent], thread, event);
+    w.machine = done.machine;
+    write!(out, " {}", done.answer)
 }
 
-fn item<W: Write>(out: &mut W, w: World, mem: &mut [u64], s: &[u8]) -> io::Result<World> {
+fn item<W: Write>(out: &mut W, w: &mut World, mem: &mut [u64], s: &[u8]) -> io::Result<()> {
     let b = test_poke::text::bytes(s);
     if b[0] == tape::FIRST_BYTE {
-        return record(out, w, mem, b);
+        return record(out, w, mem, &b);
     }
-    Ok(test_poke::poke(w, mem, b))
+    test_poke::poke(w, mem, &b);
+    Ok(())
 }
 
-// What follows a rule: a colon, and each item behind a space.
+// The items, each with a space behind it but the last.
 fn items<W: Write>(out: &mut W, s: &[u8]) -> io::Result<()> {
     let mut mem = [0u64; MEMORY];
     let mut w = World {
         machine: machine::fresh(),
         lent: 64,
     };
-    let mut at = 2;
-    while at + 32 <= s.len() {
-        let end = at + 32;
-        w = item(out, w, &mut mem, &s[at..end])?;
-        at = end + 1;
+    for chunk in s.chunks(ITEM + 1) {
+        if let Some(digits) = chunk.get(..ITEM) {
+            item(out, &mut w, &mut mem, digits)?;
+        }
     }
-    test_show::machine(out, &w.machine)?;
-    test_show::memory(out, &mem)?;
-    test_show::count(out, w.machine.count)
+    let shown = Shown {
+        machine: &w.machine,
+        memory: &mem,
+    };
+    write!(out, "{shown}")
 }
 
 fn line<W: Write>(out: &mut W, s: &[u8]) -> io::Result<()> {
-    let colon = test_poke::text::find(s, 0, b':');
-    out.write_all(&s[..colon])?;
+    let colon = s.iter().position(|byte| *byte == b':').unwrap_or(s.len());
+    let (rule, behind) = s.split_at(colon);
+    out.write_all(rule)?;
     out.write_all(b":")?;
-    items(out, &s[colon..])?;
+    items(out, behind.get(2..).unwrap_or(b""))?;
     out.write_all(b"\n")
 }
 
+// No closure: in a generic function the loop over it gets no proof.
+fn ends_line(byte: &u8) -> bool {
+    *byte == b'\n'
+}
+
 // Every line of a text.
-pub fn lines<W: Write>(out: &mut W, s: &[u8]) -> io::Result<()> {
-    let mut at = 0;
-    while at < s.len() {
-        let end = test_poke::text::find(s, at, b'\n');
-        line(out, &s[at..end])?;
-        at = end + 1;
+pub fn lines<W: Write>(out: &mut W, text: &[u8]) -> io::Result<()> {
+    for s in text.split_inclusive(ends_line) {
+        line(out, s.strip_suffix(b"\n").unwrap_or(s))?;
     }
     Ok(())
 }

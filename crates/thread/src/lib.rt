@@ -1,26 +1,26 @@
 // One thread: live registers and checkpoint, control registers, transaction; recording of a failure (rules M4 to M7, X1 to X6, F1 to F5).
-// On rows that are lent a failure is recorded and handled in `power_common::place`. What a return from an interrupt may ask for: `turns`.
+// What a return from an interrupt may ask for: `turns`.
 #![tactic(auto)]
 
 pub mod turns;
 
 ghost use Rattle.std.specs.Prelude.{◌≡◌, ◌<◌, ◌^◌};
 ghost use Rattle.thread.specs.Texasr.{rot, tl, packed, cause_bits};
-ghost use Rattle.thread.specs.Thread.{in_state, take_checkpoint, restore, failed, suspended, noted, recording};
+ghost use Rattle.thread.specs.Thread.{in_state, with_failure, take_checkpoint, restore, failed, noted, recording, handling, is_live, felled};
 
 use base::{CR_FIELDS, GPRS};
 use transaction::{Cause, Touch, Transaction, Write};
 
 // 32 general registers, and CR fields 1 to 7: cr[0] is field 1. CR0 stands apart, since no checkpoint holds it.
 #[repr(C)]
-#[derive(Clone, Copy)]
+#[derive(Clone, Copy, PartialEq, Eq)]
 pub struct Registers {
     pub gpr: [u64; GPRS],
     pub cr: [u8; CR_FIELDS],
 }
 
 // Non-transactional, Transactional, Suspended.
-#[derive(Clone, Copy)]
+#[derive(Clone, Copy, PartialEq, Eq)]
 pub enum State {
     N,
     T,
@@ -28,7 +28,7 @@ pub enum State {
 }
 
 // The machine state, which an interrupt changes: PR, TM, the transaction's state, and TDOOMED.
-#[derive(Clone, Copy)]
+#[derive(Clone, Copy, PartialEq, Eq)]
 pub struct Msr {
     pub pr: bool,
     pub tm: bool,
@@ -37,7 +37,7 @@ pub struct Msr {
 }
 
 // The failure registers.
-#[derive(Clone, Copy)]
+#[derive(Clone, Copy, PartialEq, Eq)]
 pub struct Failure {
     pub tfhar: u64,
     pub tfiar: u64,
@@ -45,14 +45,14 @@ pub struct Failure {
 }
 
 // What an interrupt saved: the next address in SRR0, TS, TM and PR in SRR1.
-#[derive(Clone, Copy)]
+#[derive(Clone, Copy, PartialEq, Eq)]
 pub struct Saved {
     pub srr0: u64,
     pub srr1: u64,
 }
 
-// The next address, the machine state, the failure registers, and what an interrupt saved.
-#[derive(Clone, Copy)]
+// The next address, the machine state, the failure registers, and what an interrupt saved. C has `crossing::RawControl`.
+#[derive(Clone, Copy, PartialEq, Eq)]
 pub struct Control {
     pub nia: u64,
     pub msr: Msr,
@@ -60,7 +60,8 @@ pub struct Control {
     pub saved: Saved,
 }
 
-#[derive(Clone, Copy)]
+// Registers, checkpoint, control registers and transaction. C has `crossing::RawThread`.
+#[derive(Clone, Copy, PartialEq, Eq)]
 pub struct Thread {
     pub live: Registers,
     pub cr0: u8,
@@ -69,7 +70,8 @@ pub struct Thread {
     pub transaction: Transaction,
 }
 
-// What an event does, decided before anything changes: its answer, its own thread afterwards, what it touches and what it writes.
+// What an event does, decided before anything changes: its answer, its own thread afterwards, what it touches and what it writes. The answer is
+// a number, as the definitions in step_rules and power_rules and the theorems over them have it.
 #[derive(Clone, Copy)]
 pub struct Effect {
     pub answer: u8,
@@ -93,7 +95,10 @@ const LEVEL: u64 = 0x1000;
 
 const UPPER: u64 = 0x1_0000_0000;
 
-// TEXASR's ROT bit and its level.
+// What CR0 tells of a failure that is handled.
+const FAILED: u8 = 0b1010;
+
+// TEXASR's ROT bit and its level, with the bounds that `packed` asks for.
 pub fn rot(x: u64) -> u64
     ensures value { result ≡ rot x }
     ensures upper_bound { result < 2 }
@@ -117,7 +122,7 @@ pub fn packed(cause: u64, suspended: u64, pr: u64, exact: u64, r: u64, level: u6
     cause * UPPER + suspended * SUSPENDED + pr * PROBLEM + SUMMARY + exact * EXACT + r * ROT + level
 }
 
-// A cause's 32 bits, for the upper half.
+// A cause's 32 bits, for the upper half. The bits are the Power ISA's: a match, each by its case.
 pub fn cause_bits(cause: Cause) -> u64
     ensures value { result ≡ cause_bits cause }
     ensures upper_bound { result < 2 ^ 32 }
@@ -134,106 +139,105 @@ pub fn cause_bits(cause: Cause) -> u64
     }
 }
 
-// The control registers in another state, with TDOOMED.
-pub fn in_state(k: Control, s: State, doomed: bool) -> Control
-    ensures { result ≡ in_state k s doomed }
-{
-    let m = k.msr;
-    let failure = k.failure;
-    let saved = k.saved;
-    Control {
-        nia: k.nia,
-        msr: Msr {
-            pr: m.pr,
-            tm: m.tm,
-            state: s,
-            doomed,
-        },
-        failure,
-        saved,
+impl Control {
+    // FS = 1.
+    #[inline]
+    pub fn failed(&self) -> bool
+        ensures { result ≡ failed self.now }
+    {
+        self.failure.texasr / SUMMARY % 2 == 1
+    }
+
+    // Another state, with TDOOMED: doomed is a bit that `in_state` takes, and no choice of a step.
+    #[inline]
+    pub fn set_state(&mut self, state: State, doomed: bool)
+        ensures { self.new ≡ in_state self.old state doomed }
+    {
+        self.msr.state = state;
+        self.msr.doomed = doomed;
+    }
+
+    // A cause noted for an instruction's address.
+    pub fn note(&mut self, cause: Cause, exact: bool, at: u64)
+        ensures { self.new ≡ with_failure self.old (noted self.old cause exact at) }
+    {
+        let old = self.failure.texasr;
+        let pr = base::bit(self.msr.pr);
+        self.failure.tfiar = at - at % 4 + pr;
+        self.failure.texasr = packed(
+            cause_bits(cause),
+            base::bit(self.msr.state == State::S),
+            pr,
+            base::bit(exact),
+            rot(old),
+            tl(old),
+        );
     }
 }
 
-// FS = 1.
-pub fn failed(k: Control) -> bool
-    ensures { result ≡ failed k }
-{
-    let f = k.failure;
-    f.texasr / SUMMARY % 2 == 1
-}
-
-fn suspended(s: State) -> u64
-    ensures value { result ≡ suspended s }
-    ensures upper_bound { result < 2 }
-{
-    match s {
-        State::N => 0,
-        State::T => 0,
-        State::S => 1,
+impl Thread {
+    #[inline]
+    pub fn take_checkpoint(&mut self)
+        ensures { self.new ≡ take_checkpoint self.old }
+    {
+        self.checkpoint = self.live;
     }
-}
 
-// The checkpoint taken.
-pub fn take_checkpoint(t: Thread) -> Thread
-    ensures { result ≡ take_checkpoint t }
-{
-    let live = t.live;
-    let mut u = t;
-    u.checkpoint = live;
-    u
-}
-
-// The checkpoint put back: CR0 stands apart and stays.
-pub fn restore(t: Thread) -> Thread
-    ensures { result ≡ restore t }
-{
-    let checkpoint = t.checkpoint;
-    let mut u = t;
-    u.live = checkpoint;
-    u
-}
-
-// The failure registers with a cause noted for an instruction's address.
-pub fn noted(k: Control, cause: Cause, exact: bool, at: u64) -> Failure
-    ensures { result ≡ noted k cause exact at }
-{
-    let m = k.msr;
-    let f = k.failure;
-    let s = m.state;
-    let old = f.texasr;
-    let pr = base::bit(m.pr);
-    let texasr = packed(
-        cause_bits(cause),
-        suspended(s),
-        pr,
-        base::bit(exact),
-        rot(old),
-        tl(old),
-    );
-    Failure {
-        tfhar: f.tfhar,
-        tfiar: at - at % 4 + pr,
-        texasr,
+    // The checkpoint put back: CR0 stands apart and stays. It and `take_checkpoint` move opposite ways: alike in shape alone.
+    #[inline]
+    pub fn restore(&mut self)
+        ensures { self.new ≡ restore self.old }
+    {
+        self.live = self.checkpoint;
     }
-}
 
-// A cause recorded for an instruction's address, only if FS = 0: a second failure leaves the first.
-pub fn recording(t: Thread, cause: Cause, exact: bool, at: u64) -> Thread
-    ensures { result ≡ recording t cause exact at }
-{
-    let k = t.control;
-    if failed(k) {
-        return t;
+    // A cause recorded for an instruction's address, only if FS = 0: a second failure leaves the first. exact is
+    // TEXASR's bit 37, which `recording` takes: no choice of a step.
+    #[tactic(auto, unfolding(crate::specs::Thread::recording))]
+    pub fn record(&mut self, cause: Cause, exact: bool, at: u64)
+        ensures { self.new ≡ recording self.old cause exact at }
+    {
+        if !self.control.failed() {
+            self.control.note(cause, exact, at);
+            self.control.msr.doomed = true;
+            self.transaction.discard();
+        }
     }
-    let failure = noted(k, cause, exact, at);
-    let m = k.msr;
-    let s = m.state;
-    let mut control = in_state(k, s, true);
-    control.failure = failure;
-    let x = t.transaction;
-    let transaction = transaction::discard(x);
-    let mut u = t;
-    u.control = control;
-    u.transaction = transaction;
-    u
+
+    // A failure handled: the checkpoint put back, and on at TFHAR in N.
+    #[tactic(auto, unfolding(crate::specs::Thread::handling))]
+    pub fn handle(&mut self)
+        ensures { self.new ≡ handling self.old }
+    {
+        self.restore();
+        self.control.nia = self.control.failure.tfhar;
+        self.control.set_state(State::N, false);
+        self.cr0 = FAILED;
+    }
+
+    // The transaction is live: in T, and in S until it is doomed. A case for each state, as `is_live` is defined.
+    #[inline]
+    pub fn is_live(&self) -> bool
+        ensures { result ≡ is_live self.now.control.msr.state self.now.control.msr.doomed }
+    {
+        match self.control.msr.state {
+            State::N => false,
+            State::T => true,
+            State::S => !self.control.msr.doomed,
+        }
+    }
+
+    // Another thread's event fails the transaction: in T that is handled too, in S it waits for tresume.
+    #[tactic(auto, unfolding(crate::specs::Thread::felled))]
+    pub fn fell(&mut self, cause: Cause)
+        ensures { self.new ≡ felled self.old.control.msr.state self.old cause }
+    {
+        let state = self.control.msr.state;
+        if state != State::N {
+            self.record(cause, false, self.control.nia);
+        }
+        if state == State::T {
+            self.handle();
+        }
+    }
 }

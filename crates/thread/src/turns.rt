@@ -1,5 +1,5 @@
 // The machine state in SRR1 (rule M15), and what a return makes of the one that is asked for (rule E0.11).
-ghost use Rattle.std.specs.Prelude.{◌≡◌, ◌<◌, true, false};
+ghost use Rattle.std.specs.Prelude.{◌≡◌, ◌<◌};
 ghost use Rattle.thread.specs.Turns.{ts, srr1_of, by_srr1, table, turned, is_bad};
 
 use crate::{Msr, State};
@@ -13,7 +13,8 @@ pub struct Asked {
     pub pr: bool,
 }
 
-// What comes of it: a Bad Thing; a failure, in T; or a state and TM.
+// What comes of it: a Bad Thing; a failure, in T; or a state and TM. Three outcomes, as `table` in specs/Turns has them: a
+// failure in T is no refusal, so it is no Result.
 #[derive(Clone, Copy)]
 pub enum Turn {
     Bad,
@@ -30,7 +31,7 @@ const FACILITY: u64 = 0x1_0000_0000;
 
 const PROBLEM: u64 = 0x4000;
 
-// The state as two bits.
+// The state as two bits, SRR1's own. CR0's field is `power::common::ts_field`: two tables of the architecture.
 fn ts(s: State) -> u64
     ensures value { result ≡ ts s }
     ensures upper_bound { result < 4 }
@@ -42,18 +43,8 @@ fn ts(s: State) -> u64
     }
 }
 
-// What an interrupt saves in SRR1.
-pub fn srr1_of(m: Msr) -> u64
-    ensures { result ≡ srr1_of m }
-{
-    let s = m.state;
-    let two = ts(s);
-    let tm = base::bit(m.tm);
-    let pr = base::bit(m.pr);
-    two * SUSPENDED + tm * FACILITY + pr * PROBLEM
-}
-
-// What SRR1 asks for.
+// What SRR1 asks for. No `From`: TEXASR is a u64 too, and the name says which register.
+#[tactic(auto, unfolding(crate::specs::Turns::by_srr1))]
 pub fn by_srr1(x: u64) -> Asked
     ensures { result ≡ by_srr1 x }
 {
@@ -65,90 +56,47 @@ pub fn by_srr1(x: u64) -> Asked
     }
 }
 
-// From N only N is allowed.
-fn from_n(now: bool, a: Asked) -> Turn
-    ensures { result ≡ table State.N a.t a.s now a.tm }
-{
-    if a.t {
-        return Turn::Bad;
+impl Msr {
+    // What an interrupt saves in SRR1.
+    pub fn srr1(self) -> u64
+        ensures { result ≡ srr1_of self }
+    {
+        ts(self.state) * SUSPENDED + base::bit(self.tm) * FACILITY + base::bit(self.pr) * PROBLEM
     }
-    if a.s {
-        return Turn::Bad;
-    }
-    Turn::To {
-        state: State::N,
-        tm: a.tm,
-    }
-}
 
-// From S to T, with TM on alone.
-fn to_t(now: bool, a: Asked) -> Turn
-    ensures { result ≡ table State.S true a.s now a.tm }
-{
-    if a.s {
-        return Turn::Bad;
+    // What comes of what is asked. From N only N is allowed, from S to T only with TM on, and from S to N TM off that is asked for TM off
+    // is done, and leaves S.
+    #[tactic(auto, unfolding(crate::specs::Turns::table))]
+    pub fn turned(self, asked: Asked) -> Turn
+        ensures { result ≡ turned self asked }
+    {
+        let tm = asked.tm;
+        match (self.state, asked.t, asked.s) {
+            (State::N, false, false) => Turn::To {
+                state: State::N,
+                tm,
+            },
+            (State::S, false, false) if !self.tm && !tm => Turn::To {
+                state: State::S,
+                tm,
+            },
+            (State::S, false, true) => Turn::To {
+                state: State::S,
+                tm,
+            },
+            (State::S, true, false) if tm => Turn::To {
+                state: State::T,
+                tm,
+            },
+            (State::T, _, _) => Turn::Fails,
+            _ => Turn::Bad,
+        }
     }
-    if a.tm {
-        return Turn::To {
-            state: State::T,
-            tm: true,
-        };
-    }
-    Turn::Bad
-}
 
-// From S to N: TM off that is asked for TM off is done, and leaves S.
-#[tactic(auto, unfolding(crate::specs::Turns::table))]
-fn to_n(now: bool, a: Asked) -> Turn
-    ensures { result ≡ table State.S false false now a.tm }
-{
-    if now {
-        return Turn::Bad;
-    }
-    if a.tm {
-        return Turn::Bad;
-    }
-    Turn::To {
-        state: State::S,
-        tm: false,
-    }
-}
-
-fn from_s(now: bool, a: Asked) -> Turn
-    ensures { result ≡ table State.S a.t a.s now a.tm }
-{
-    if a.t {
-        return to_t(now, a);
-    }
-    if a.s {
-        return Turn::To {
-            state: State::S,
-            tm: a.tm,
-        };
-    }
-    to_n(now, a)
-}
-
-// What comes of what is asked.
-pub fn turned(m: Msr, a: Asked) -> Turn
-    ensures { result ≡ turned m a }
-{
-    let s = m.state;
-    match s {
-        State::N => from_n(m.tm, a),
-        State::T => Turn::Fails,
-        State::S => from_s(m.tm, a),
-    }
-}
-
-// Number 13 is for these.
-pub fn is_bad(m: Msr, a: Asked) -> bool
-    ensures { result ≡ is_bad (turned m a) }
-{
-    let t = turned(m, a);
-    match t {
-        Turn::Bad => true,
-        Turn::Fails => false,
-        Turn::To { state: _, tm: _ } => false,
+    // Number 13 is for these.
+    pub fn is_bad(self, asked: Asked) -> bool
+        ensures { result ≡ is_bad (turned self asked) }
+    {
+        matches!(self.turned(asked), Turn::Bad)
     }
 }

@@ -1,14 +1,12 @@
 -- What a transaction holds: read set, write set and log (rules M9 to M13), and what loads, stores, commit and discard do to it
 -- (rules A1 and A4; E2). A place of the log has marks for the bytes that were stored (rule M11; `doubleword/specs/Doubleword`).
-use Rattle.std.specs.Prelude.{ℕ, zero, suc, ◌+◌, ◌/◌, Bool, false, not, cond, ◌&&◌, ◌||◌, List, set, replicate, nat_le, slice_index, slice_index_or, ◌==◌}
+use Rattle.std.specs.Prelude.{ℕ, zero, suc, ◌+◌, ◌/◌, Bool, false, not, cond, ◌&&◌, ◌||◌, Option, Some, None, List, set, replicate, nat_le, slice_index, slice_index_or, ◌==◌}
 use Rattle.std.specs.Int.Bits.{bit_or}
 use Rattle.doubleword.specs.Doubleword.{merged}
 use Rattle.base.specs.Limits.{line_size, most_footprint, most_places}
 use Rattle.lines.specs.Lines as lines
 use Rattle.transaction.specs.declared.Entry.{Entry}
 use Rattle.transaction.specs.declared.Transaction.{Transaction}
-use Rattle.transaction.specs.declared.Found.{Found}
-use Rattle.transaction.specs.declared.Found.TheVariants.{At, Absent}
 use Rattle.transaction.specs.declared.Write.{Write}
 use Rattle.transaction.specs.declared.Write.TheVariants.{Unwritten, Bytes, Log}
 
@@ -31,17 +29,17 @@ unfoldable pub discard : Transaction → Transaction
 discard x = empty
 
 -- the place of doubleword i among the first n
-unfoldable pub lookup_in : List Entry → ℕ → ℕ → Found
-lookup_in es i zero = Absent
-lookup_in es i (suc n) = cond ((entry es n).index == i) (At n) (lookup_in es i n)
+unfoldable pub lookup_in : List Entry → ℕ → ℕ → Option ℕ
+lookup_in es i zero = None
+lookup_in es i (suc n) = cond ((entry es n).index == i) (Some n) (lookup_in es i n)
 
-abbrev pub lookup : Transaction → ℕ → Found
+abbrev pub lookup : Transaction → ℕ → Option ℕ
 lookup x i = lookup_in x.log i x.count
 
 -- (d) a load sees the log's marked bytes over memory's
-unfoldable pub loaded : List Entry → List ℕ → Found → ℕ → ℕ
-loaded es mem (At n) i = merged (entry es n).marks (slice_index mem i) (entry es n).value
-loaded es mem Absent i = slice_index mem i
+unfoldable pub loaded : List Entry → List ℕ → Option ℕ → ℕ → ℕ
+loaded es mem (Some n) i = merged (entry es n).marks (slice_index mem i) (entry es n).value
+loaded es mem None i = slice_index mem i
 
 abbrev pub load : Transaction → List ℕ → ℕ → ℕ
 load x mem i = loaded x.log mem (lookup x i) i
@@ -59,9 +57,9 @@ unfoldable pub crowded : Transaction → ℕ → Bool
 crowded x l = not (touches x l) && nat_le most_footprint (lines.footprint x.reads x.writes)
 
 -- (a) no room in the log
-unfoldable pub full : Transaction → Found → Bool
-full x (At n) = false
-full x Absent = nat_le most_places x.count
+unfoldable pub full : Transaction → Option ℕ → Bool
+full x (Some n) = false
+full x None = nat_le most_places x.count
 
 abbrev pub load_overflows : Transaction → ℕ → Bool
 load_overflows x i = crowded x (line i)
@@ -77,10 +75,10 @@ join x i = record { reads = lines.with x.reads (line i); writes = x.writes; coun
 unfoldable pub stored : Entry → ℕ → ℕ → ℕ → Entry
 stored e i m v = record { index = i; marks = bit_or e.marks m; value = merged m e.value v }
 
-unfoldable pub store_at : Transaction → Found → ℕ → ℕ → ℕ → Transaction
-store_at x (At n) i m v =
+unfoldable pub store_at : Transaction → Option ℕ → ℕ → ℕ → ℕ → Transaction
+store_at x (Some n) i m v =
     record { reads = x.reads; writes = lines.with x.writes (line i); count = x.count; log = set x.log n (stored (entry x.log n) i m v) }
-store_at x Absent i m v =
+store_at x None i m v =
     record { reads = x.reads; writes = lines.with x.writes (line i); count = x.count + 1; log = set x.log x.count (stored no_entry i m v) }
 
 abbrev pub store : Transaction → ℕ → ℕ → ℕ → Transaction

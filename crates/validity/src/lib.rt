@@ -1,223 +1,202 @@
 // The valid machine, clause by clause (rules V1 to V15), for any value of the struct, however broken.
 #![tactic(auto)]
 
-mod zeros;
-
-ghost use Rattle.std.specs.Prelude.{◌≡◌, cond, ◌<◌};
+ghost use Rattle.std.specs.Prelude.{◌≡◌, ◌<◌, true};
+ghost use Rattle.base.specs.Answers.{judgement_number};
 ghost use Rattle.base.specs.Limits.{most_threads};
-ghost use Rattle.machine.specs.Valid.{memory_sized, sized, aligned, cr_small, fields_small, live_rules, state_rules, thread_valid, thread_right, threads_right, zero_thread, valid, machine_number};
+ghost use Rattle.machine.specs.Valid.{memory_sized, sized, registers_shaped, shaped, aligned, cr_small, fields_small, live_rules, state_rules, thread_valid, zero_registers, zero_control, zero_thread, thread_right, threads_right, valid, machine_number};
 
-use base::{CR_FIELDS, FOOTPRINT, LEVELS, LINE, MEMORY, THREADS, answer};
+use base::answer::Refusal;
+use base::{CR_FIELDS, FOOTPRINT, GPRS, LEVELS, LINE, MEMORY, PLACES, THREADS, WORDS};
 use machine::Machine;
-use thread::{Control, Registers, State, Thread};
+use thread::{Control, Failure, Msr, Registers, Saved, State, Thread};
+
+// The registers of a record past the count: all zero (rule V3).
+const NO_REGISTERS: Registers = Registers {
+    gpr: [0; GPRS],
+    cr: [0; CR_FIELDS],
+};
+
+const NO_CONTROL: Control = Control {
+    nia: 0,
+    msr: Msr {
+        pr: false,
+        tm: false,
+        state: State::N,
+        doomed: false,
+    },
+    failure: Failure {
+        tfhar: 0,
+        tfiar: 0,
+        texasr: 0,
+    },
+    saved: Saved { srr0: 0, srr1: 0 },
+};
 
 fn memory_sized(len: usize) -> bool
     ensures { result ≡ memory_sized len }
 {
-    if len % LINE != 0 {
-        return false;
-    }
-    if len < LINE {
-        return false;
-    }
-    len <= MEMORY
+    len % LINE == 0 && LINE <= len && len <= MEMORY
 }
 
 // Number 1: memory length and thread count.
-pub fn sized(m: Machine, len: usize) -> bool
-    ensures { result ≡ sized m len }
+#[tactic(auto, unfolding(machine::specs::Valid::sized))]
+pub fn sized(m: &Machine, len: usize) -> bool
+    ensures { result ≡ sized m.now len }
 {
-    if !memory_sized(len) {
-        return false;
-    }
-    if m.count < 1 {
-        return false;
-    }
-    m.count <= THREADS
+    memory_sized(len) && 1 <= m.count && m.count <= THREADS
 }
 
 // NIA and TFHAR are multiples of 4.
-fn aligned(k: Control) -> bool
-    ensures { result ≡ aligned k }
+#[tactic(auto, unfolding(machine::specs::Valid::aligned))]
+fn aligned(k: &Control) -> bool
+    ensures { result ≡ aligned k.now }
 {
-    if k.nia % 4 != 0 {
-        return false;
-    }
-    let f = k.failure;
-    f.tfhar % 4 == 0
+    k.nia % 4 == 0 && k.failure.tfhar % 4 == 0
 }
 
 // CR fields 1 to 7 are below 16.
-fn cr_small(r: Registers) -> bool
-    ensures { result ≡ cr_small r }
+fn cr_small(r: &Registers) -> bool
+    ensures { result ≡ cr_small r.now }
 {
-    let mut f = CR_FIELDS;
-    while 0 < f {
-        f -= 1;
-        if 16 <= r.cr[f] {
-            return false;
-        }
-    }
-    true
-}
-
-fn fields_small(t: Thread) -> bool
-    ensures { result ≡ fields_small t }
-{
-    if 16 <= t.cr0 {
-        return false;
-    }
-    let live = t.live;
-    if !cr_small(live) {
-        return false;
-    }
-    let checkpoint = t.checkpoint;
-    cr_small(checkpoint)
+    r.cr.iter().all(|f| *f < 16)
 }
 
 // What a live transaction asks.
-fn live_rules(t: Thread) -> bool
-    ensures { result ≡ live_rules t }
+#[tactic(auto, unfolding(machine::specs::Valid::live_rules))]
+fn live_rules(t: &Thread) -> bool
+    ensures { result ≡ live_rules t.now }
 {
-    let k = t.control;
-    if thread::failed(k) {
-        return false;
-    }
-    let f = k.failure;
-    let level = thread::tl(f.texasr);
-    if level < 1 {
-        return false;
-    }
-    if LEVELS < level {
-        return false;
-    }
-    let x = t.transaction;
-    let r = x.reads;
-    let w = x.writes;
-    lines::footprint(r, w) <= FOOTPRINT
+    let level = thread::tl(t.control.failure.texasr);
+    !t.control.failed()
+        && 1 <= level
+        && level <= LEVELS
+        && t.transaction.reads.footprint(&t.transaction.writes) <= FOOTPRINT
 }
 
-// What each state asks.
-fn state_rules(t: Thread) -> bool
-    ensures { result ≡ state_rules t.control.msr.state t }
+// What each state asks: a case for each, as `state_rules` is defined.
+#[tactic(auto, unfolding(machine::specs::Valid::state_rules))]
+fn state_rules(t: &Thread) -> bool
+    ensures { result ≡ state_rules t.now.control.msr.state t.now }
 {
-    let k = t.control;
-    let m = k.msr;
-    let s = m.state;
-    let x = t.transaction;
-    match s {
-        State::N => {
-            if m.doomed {
-                return false;
-            }
-            held::holds_nothing(x)
-        }
-        State::T => {
-            if m.doomed {
-                return false;
-            }
-            live_rules(t)
-        }
-        State::S => {
-            if m.doomed {
-                if !held::holds_nothing(x) {
-                    return false;
-                }
-                return thread::failed(k);
-            }
-            live_rules(t)
-        }
+    let doomed = t.control.msr.doomed;
+    match t.control.msr.state {
+        State::N => !doomed && held::holds_nothing(&t.transaction),
+        State::T => !doomed && live_rules(t),
+        State::S if doomed => held::holds_nothing(&t.transaction) && t.control.failed(),
+        State::S => live_rules(t),
     }
+}
+
+#[tactic(auto, unfolding(machine::specs::Valid::fields_small))]
+fn fields_small(t: &Thread) -> bool
+    ensures { result ≡ fields_small t.now }
+{
+    t.cr0 < 16 && cr_small(&t.live) && cr_small(&t.checkpoint)
+}
+
+// The arrays have their lengths. Their types say so: nothing is left of this test when it runs.
+fn registers_shaped(r: &Registers) -> bool
+    ensures { result ≡ registers_shaped r.now }
+{
+    r.gpr.as_slice().len() == GPRS && r.cr.as_slice().len() == CR_FIELDS
+}
+
+#[tactic(auto, unfolding(machine::specs::Valid::shaped))]
+fn shaped(t: &Thread) -> bool
+    ensures { result ≡ shaped t.now }
+{
+    let x = &t.transaction;
+    registers_shaped(&t.live)
+        && registers_shaped(&t.checkpoint)
+        && x.reads.words.as_slice().len() == WORDS
+        && x.writes.words.as_slice().len() == WORDS
+        && x.log.as_slice().len() == PLACES
 }
 
 // A thread record below the count.
-fn thread_valid(t: Thread, len: usize) -> bool
-    ensures { result ≡ thread_valid t len }
+#[tactic(auto, unfolding(machine::specs::Valid::thread_valid))]
+fn thread_valid(t: &Thread, len: usize) -> bool
+    ensures { result ≡ thread_valid t.now len }
 {
-    let k = t.control;
-    if !aligned(k) {
-        return false;
-    }
-    if !fields_small(t) {
-        return false;
-    }
-    if !state_rules(t) {
-        return false;
-    }
-    let x = t.transaction;
-    held::held_right(x, len)
+    shaped(t)
+        && aligned(&t.control)
+        && fields_small(t)
+        && state_rules(t)
+        && held::held_right(&t.transaction, len)
 }
 
-// A thread record is valid, or past the count and zero.
-fn record_right(t: Thread, len: usize, below: bool) -> bool
-    ensures { result ≡ cond below (thread_valid t len) (zero_thread t) }
+// `==` with the zero record, here and in `zero_control`: each has a definition of its own (rule V3).
+#[tactic(auto, unfolding(machine::specs::Valid::zero_gpr, machine::specs::Valid::zero_cr))]
+fn zero_registers(r: &Registers) -> bool
+    requires { registers_shaped r.now ≡ true }
+    ensures { result ≡ zero_registers r.now }
 {
-    if below {
-        return thread_valid(t, len);
-    }
-    zeros::zero_thread(t)
+    *r == NO_REGISTERS
 }
 
-// The same of record w. A case each: an index that is not known would copy all records to take one.
-fn thread_right(m: Machine, len: usize, w: usize) -> bool
+#[tactic(auto, unfolding(machine::specs::Valid::zero_control, machine::specs::Valid::zero_msr, machine::specs::Valid::zero_failure, machine::specs::Valid::zero_saved))]
+fn zero_control(k: &Control) -> bool
+    ensures { result ≡ zero_control k.now }
+{
+    *k == NO_CONTROL
+}
+
+// A thread record past the count: all zero (rule V3). Clause by clause, as `zero_thread` is defined.
+#[tactic(auto, using(base::proofs::Below::and_left), unfolding(machine::specs::Valid::shaped, machine::specs::Valid::zero_thread))]
+fn zero_thread(t: &Thread) -> bool
+    ensures { result ≡ zero_thread t.now }
+{
+    shaped(t)
+        && zero_registers(&t.live)
+        && t.cr0 == 0
+        && zero_registers(&t.checkpoint)
+        && zero_control(&t.control)
+        && held::holds_nothing(&t.transaction)
+        && held::unused_zero(&t.transaction)
+}
+
+// Record w is a valid thread, or past the count and zero.
+#[tactic(auto, unfolding(machine::specs::Valid::thread_right))]
+fn thread_right(m: &Machine, len: usize, w: usize) -> bool
     requires { w < most_threads }
-    ensures { result ≡ thread_right m len w }
+    ensures { result ≡ thread_right m.now len w }
 {
-    match w {
-        0 => {
-            let t = m.threads[0];
-            record_right(t, len, 0 < m.count)
-        }
-        1 => {
-            let t = m.threads[1];
-            record_right(t, len, 1 < m.count)
-        }
-        2 => {
-            let t = m.threads[2];
-            record_right(t, len, 2 < m.count)
-        }
-        _ => {
-            let t = m.threads[3];
-            record_right(t, len, 3 < m.count)
-        }
+    let t = &m.threads[w];
+    if w < m.count {
+        thread_valid(t, len)
+    } else {
+        zero_thread(t)
     }
 }
 
-fn threads_right(m: Machine, len: usize) -> bool
-    ensures { result ≡ threads_right m len }
+fn threads_right(m: &Machine, len: usize) -> bool
+    ensures { result ≡ threads_right m.now len }
 {
-    let mut w = THREADS;
-    while 0 < w {
-        w -= 1;
-        if !thread_right(m, len, w) {
-            return false;
-        }
-    }
-    true
+    (0..THREADS).all(|w| thread_right(m, len, w))
 }
 
 // The whole of a valid machine, over a memory of len doublewords.
-fn valid(m: Machine, len: usize) -> bool
-    ensures { result ≡ valid m len }
+#[tactic(auto, unfolding(machine::specs::Valid::valid))]
+fn valid(m: &Machine, len: usize) -> bool
+    ensures { result ≡ valid m.now len }
 {
-    if !sized(m, len) {
-        return false;
-    }
-    if !threads_right(m, len) {
-        return false;
-    }
-    apart::apart(m)
+    sized(m, len)
+        && m.threads.as_slice().len() == THREADS
+        && threads_right(m, len)
+        && apart::apart(m)
 }
 
-// The tests 1 and 2, in this order; 0 for a machine that passes both.
-pub fn number(m: Machine, len: usize) -> u8
-    ensures { result ≡ machine_number m len }
+// The tests 1 and 2, in this order.
+#[tactic(auto, unfolding(machine::specs::Valid::machine_number))]
+pub fn judged(m: &Machine, len: usize) -> Result<(), Refusal>
+    ensures { judgement_number result ≡ machine_number m.now len }
 {
     if !sized(m, len) {
-        return answer::SIZE;
+        return Err(Refusal::Size);
     }
     if !valid(m, len) {
-        return answer::NO_MACHINE;
+        return Err(Refusal::NoMachine);
     }
-    answer::DONE
+    Ok(())
 }

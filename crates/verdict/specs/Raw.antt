@@ -2,11 +2,9 @@
 use Rattle.std.specs.Prelude.{ℕ, Bool, cond, not, ◌&&◌, nat_le, ◌==◌}
 use Rattle.base.specs.Answers as answer
 use Rattle.hardware.specs.Fields.{told}
-use Rattle.hardware.specs.Table.{is_highest}
+use Rattle.hardware.specs.Table.{is_highest, seventh_of}
 use Rattle.hardware.specs.Render.{value, care}
 use Rattle.hardware.specs.Judge as judge
-use Rattle.hardware.specs.declared.Seventh.{Seventh}
-use Rattle.hardware.specs.declared.Seventh.TheVariants.{Free, Zero, One}
 use Rattle.hardware.specs.declared.Profile.{Profile}
 use Rattle.hardware.specs.declared.Registers.{Registers}
 use Rattle.hardware.specs.declared.Verdict.{Verdict}
@@ -20,10 +18,6 @@ use Rattle.verdict.specs.declared.raw.RawVerdict.{RawVerdict}
 -- what is no profile: a highest level that no processor has, HV or late that is no bit, another number for bit 7
 abbrev pub right : RawProfile → Bool
 right p = is_highest 8 p.highest && ((nat_le p.hv 1 && nat_le p.late 1) && nat_le p.seventh 2)
-
--- bit 7 of nesting: 0, 1, or 2 where it is free
-abbrev pub seventh_of : ℕ → Seventh
-seventh_of n = cond (n == 0) Zero (cond (n == 1) One Free)
 
 abbrev pub profile_of : RawProfile → Profile
 profile_of p = record { highest = p.highest; hv = p.hv == 1; late = p.late == 1; seventh = seventh_of p.seventh }

@@ -1,9 +1,13 @@
 // The comparison on plain numbers, which any bits may be: what crate `host` gives hosts.
-ghost use Rattle.std.specs.Prelude.{◌≡◌};
-ghost use Rattle.verdict.specs.Raw.{right, seventh_of, profile_of, registers_of, taken, show, number, told_as, compare};
+ghost use Rattle.std.specs.Prelude.{◌≡◌, cond, nat_le, ◌==◌, Ok, Err};
+ghost use Rattle.base.specs.declared.answer.Refusal.TheVariants.{Operand};
+ghost use Rattle.verdict.specs.Raw.{right, profile_of, registers_of, taken, show, told_as, compare};
 
-use base::answer;
-use hardware::{Compared, Profile, Registers, Seventh, Verdict, fields, render, table};
+use base::answer::{Completion, Refusal};
+use hardware::{Compared, Profile, Registers, Seventh, Told, fields, render, table};
+
+// The four types that cross to C: numbers for enums and flags, an answer beside the values that it goes with, and registers of a type apart,
+// since `compare` (specs/Raw) and `naszeptan_compare` have it.
 
 // A profile: bit 7 of nesting is 0, 1, or 2 where it is free.
 #[repr(C)]
@@ -45,109 +49,109 @@ pub struct RawVerdict {
     pub tfhar: u64,
 }
 
-fn right(p: RawProfile) -> bool
-    ensures { result ≡ right p }
+// A bit of a profile. No `TryFrom`: neither bool nor u8 is this crate's.
+fn flag(n: u8) -> Result<bool, Refusal>
+    ensures { result ≡ cond (nat_le n 1) (Ok (n == 1)) (Err Operand) }
 {
-    table::is_highest(p.highest) & (((p.hv <= 1) & (p.late <= 1)) & (p.seventh <= 2))
-}
-
-fn seventh_of(n: u8) -> Seventh
-    ensures { result ≡ seventh_of n }
-{
-    if n == 0 {
-        return Seventh::Zero;
-    }
-    if n == 1 {
-        return Seventh::One;
-    }
-    Seventh::Free
-}
-
-fn profile_of(p: RawProfile) -> Profile
-    ensures { result ≡ profile_of p }
-{
-    let seventh = seventh_of(p.seventh);
-    Profile {
-        highest: p.highest,
-        hv: p.hv == 1,
-        late: p.late == 1,
-        seventh,
+    match n {
+        0 => Ok(false),
+        1 => Ok(true),
+        _ => Err(Refusal::Operand),
     }
 }
 
-fn registers_of(r: RawRegisters) -> Registers
-    ensures { result ≡ registers_of r }
-{
-    Registers {
-        texasr: r.texasr,
-        tfiar: r.tfiar,
-        tfhar: r.tfhar,
-        cr0: r.cr0,
+impl TryFrom<RawProfile> for Profile {
+    type Error = Refusal;
+
+    ghost try_from_gives = { λ p r. r ≡ cond (right p) (Ok (profile_of p)) (Err Operand) };
+
+    fn try_from(p: RawProfile) -> Result<Profile, Refusal> {
+        if !table::is_highest(p.highest) {
+            return Err(Refusal::Operand);
+        }
+        Ok(Profile {
+            highest: p.highest,
+            hv: flag(p.hv)?,
+            late: flag(p.late)?,
+            seventh: Seventh::try_from(p.seventh)?,
+        })
     }
 }
 
-fn taken(p: RawProfile, x: u64) -> bool
-    ensures { result ≡ taken p x }
+// C's type and the code's, a field a line; so is the next.
+impl From<RawRegisters> for Registers {
+    ghost from_gives = { λ r s. s ≡ registers_of r };
+
+    fn from(r: RawRegisters) -> Registers {
+        Registers {
+            texasr: r.texasr,
+            tfiar: r.tfiar,
+            tfhar: r.tfhar,
+            cr0: r.cr0,
+        }
+    }
+}
+
+impl From<Compared> for RawVerdict {
+    ghost from_gives = { λ c v. v ≡ told_as c };
+
+    fn from(c: Compared) -> RawVerdict {
+        RawVerdict {
+            answer: Completion::Done.number(),
+            verdict: c.verdict as u8,
+            cr0: c.cr0,
+            texasr: c.texasr,
+            tfiar: c.tfiar,
+            tfhar: c.tfhar,
+        }
+    }
+}
+
+// The profile that a TEXASR of the model is shown by; it must tell one cause or none.
+fn taken(p: RawProfile, x: u64) -> Result<Profile, Refusal>
+    ensures { result ≡ cond (taken p x) (Ok (profile_of p)) (Err Operand) }
 {
-    right(p) & !(fields::told(x) == fields::TORN)
+    if fields::told(x) == Told::Torn {
+        return Err(Refusal::Operand);
+    }
+    Profile::try_from(p)
 }
 
 // What hardware shows for a TEXASR of the model.
+#[tactic(auto, unfolding(crate::specs::Raw::show))]
 pub fn show(p: RawProfile, x: u64) -> RawShown
     ensures { result ≡ show p x }
 {
-    if taken(p, x) {
-        let q = profile_of(p);
-        return RawShown {
-            answer: answer::DONE,
-            value: render::value(q, x),
-            care: render::care(q, x),
-        };
-    }
-    RawShown {
-        answer: answer::OPERAND,
-        value: 0,
-        care: 0,
-    }
-}
-
-fn number(v: Verdict) -> u8
-    ensures { result ≡ number v }
-{
-    match v {
-        Verdict::Equal => 0,
-        Verdict::Allowed => 1,
-        Verdict::Contradicts => 2,
-    }
-}
-
-fn told_as(c: Compared) -> RawVerdict
-    ensures { result ≡ told_as c }
-{
-    let v = c.verdict;
-    RawVerdict {
-        answer: answer::DONE,
-        verdict: number(v),
-        cr0: c.cr0,
-        texasr: c.texasr,
-        tfiar: c.tfiar,
-        tfhar: c.tfhar,
+    match taken(p, x) {
+        Ok(profile) => RawShown {
+            answer: Completion::Done.number(),
+            value: render::value(profile, x),
+            care: render::care(profile, x),
+        },
+        Err(refusal) => RawShown {
+            answer: refusal.number(),
+            value: 0,
+            care: 0,
+        },
     }
 }
 
 // The registers read on hardware, h, against the model's, m.
+#[tactic(auto, unfolding(crate::specs::Raw::compare))]
 pub fn compare(p: RawProfile, m: RawRegisters, h: RawRegisters) -> RawVerdict
     ensures { result ≡ compare p m h }
 {
-    if taken(p, m.texasr) {
-        return told_as(crate::compared(profile_of(p), registers_of(m), registers_of(h)));
-    }
-    RawVerdict {
-        answer: answer::OPERAND,
-        verdict: 0,
-        cr0: 0,
-        texasr: 0,
-        tfiar: 0,
-        tfhar: 0,
+    match taken(p, m.texasr) {
+        Ok(profile) => {
+            RawVerdict::from(crate::compared(profile, Registers::from(m), Registers::from(h)))
+        }
+        Err(refusal) => RawVerdict {
+            answer: refusal.number(),
+            verdict: 0,
+            cr0: 0,
+            texasr: 0,
+            tfiar: 0,
+            tfhar: 0,
+        },
     }
 }

@@ -1,32 +1,66 @@
 // Why the run stopped, in one line on standard error (rule P7). An event is written as the tapes' texts and Rust hosts write it.
 #![tactic(auto)]
 
-pub mod told;
-
-use base::answer;
-use counting::goes_on;
+use base::answer::Refusal;
 use event::Event;
+use run_rules::Ended;
 use std::{fmt, io};
 use tape::{FIRST_BYTE, RECORD_SIZE, Read};
 use text_lines::LONGEST;
-use told::Told;
 
-// The words of a number of rule N1, as README's table has them.
-fn answer(n: u32) -> &'static str {
-    match n {
-        1 => "memory length or thread count",
-        2 => "the machine is not valid",
-        3 => "no such thread",
-        4 => "an operand out of range",
-        5 => "PR and TM set by the host in Transactional state",
-        6 => "tape length",
-        7 => "a record's first byte",
-        8 => "a record's kind",
-        9 => "an unused field or a fixed byte that is not 0, or flags too big",
-        11 => "the facility is off",
-        12 => "a privileged instruction in problem state",
-        13 => "TM Bad Thing",
-        _ => "no number of a run",
+// The refusals, in the order of their numbers.
+const REFUSALS: [Refusal; 13] = [
+    Refusal::Size,
+    Refusal::NoMachine,
+    Refusal::NoThread,
+    Refusal::Operand,
+    Refusal::HostInT,
+    Refusal::TapeLength,
+    Refusal::BadFirstByte,
+    Refusal::NoKind,
+    Refusal::Field,
+    Refusal::ShortBuffer,
+    Refusal::FacilityOff,
+    Refusal::Privileged,
+    Refusal::BadThing,
+];
+
+// A refusal by its number and its words.
+#[derive(Clone, Copy)]
+struct Why(Refusal);
+
+impl Why {
+    // The refusal of a number: 0, 20 and 21 are none. By number, as `Ended` has it.
+    fn of(number: u8) -> Option<Why> {
+        REFUSALS
+            .into_iter()
+            .find(|refusal| refusal.number() == number)
+            .map(Why)
+    }
+
+    // As README's table of numbers has them.
+    fn words(self) -> &'static str {
+        match self.0 {
+            Refusal::Size => "memory length or thread count",
+            Refusal::NoMachine => "the machine is not valid",
+            Refusal::NoThread => "no such thread",
+            Refusal::Operand => "an operand out of range",
+            Refusal::HostInT => "PR and TM set by the host in Transactional state",
+            Refusal::TapeLength => "tape length",
+            Refusal::BadFirstByte => "a record's first byte",
+            Refusal::NoKind => "a record's kind",
+            Refusal::Field => "an unused field or a fixed byte that is not 0, or flags too big",
+            Refusal::ShortBuffer => "the writer's or the converter's buffer is too short",
+            Refusal::FacilityOff => "the facility is off",
+            Refusal::Privileged => "a privileged instruction in problem state",
+            Refusal::BadThing => "TM Bad Thing",
+        }
+    }
+}
+
+impl fmt::Display for Why {
+    fn fmt<W: fmt::Write>(&self, f: &mut fmt::Formatter<W>) -> fmt::Result {
+        write!(f, "{}, {}", self.0.number(), self.words())
     }
 }
 
@@ -36,39 +70,10 @@ struct OrZero(u8);
 
 impl fmt::Display for OrZero {
     fn fmt<W: fmt::Write>(&self, f: &mut fmt::Formatter<W>) -> fmt::Result {
-        let r = self.0;
-        if r == 0 {
-            write!(f, "0")
-        } else {
-            write!(f, "r{r}")
+        match self.0 {
+            0 => write!(f, "0"),
+            r => write!(f, "r{r}"),
         }
-    }
-}
-
-// An immediate is signed.
-#[derive(Clone, Copy)]
-struct Signed(u16);
-
-impl fmt::Display for Signed {
-    fn fmt<W: fmt::Write>(&self, f: &mut fmt::Formatter<W>) -> fmt::Result {
-        let si = self.0;
-        if si < 0x8000 {
-            write!(f, "{si}")
-        } else {
-            let minus = 0x10000 - u32::from(si);
-            write!(f, "-{minus}")
-        }
-    }
-}
-
-// A flag as 0 or 1.
-#[derive(Clone, Copy)]
-struct Flag(bool);
-
-impl fmt::Display for Flag {
-    fn fmt<W: fmt::Write>(&self, f: &mut fmt::Formatter<W>) -> fmt::Result {
-        let bit = base::bit(self.0);
-        write!(f, "{bit}")
     }
 }
 
@@ -79,12 +84,12 @@ struct Shown(Event);
 impl fmt::Display for Shown {
     fn fmt<W: fmt::Write>(&self, f: &mut fmt::Formatter<W>) -> fmt::Result {
         match self.0 {
-            Event::Tbegin { r } => write!(f, "tbegin. R={}", Flag(r)),
-            Event::Tend { a } => write!(f, "tend. A={}", Flag(a)),
+            Event::Tbegin { r } => write!(f, "tbegin. R={}", u8::from(r)),
+            Event::Tend { a } => write!(f, "tend. A={}", u8::from(a)),
             Event::Tabort { ra } => write!(f, "tabort. {}", OrZero(ra)),
             Event::Tabortwc { to, ra, rb } => write!(f, "tabortwc. {to}, r{ra}, r{rb}"),
             Event::Tabortdc { to, ra, rb } => write!(f, "tabortdc. {to}, r{ra}, r{rb}"),
-            Event::Tsr { l } => write!(f, "tsr. L={}", Flag(l)),
+            Event::Tsr { l } => write!(f, "tsr. L={}", u8::from(l)),
             Event::Tcheck { bf } => write!(f, "tcheck cr{bf}"),
             Event::Treclaim { ra } => write!(f, "treclaim. {}", OrZero(ra)),
             Event::Trechkpt => write!(f, "trechkpt."),
@@ -98,125 +103,76 @@ impl fmt::Display for Shown {
             Event::Stb { ra, address } => write!(f, "stb r{ra}, address {address}"),
             Event::Sth { ra, address } => write!(f, "sth r{ra}, address {address}"),
             Event::Stw { ra, address } => write!(f, "stw r{ra}, address {address}"),
-            Event::Addi { rt, ra, si } => write!(f, "addi r{rt}, {}, {}", OrZero(ra), Signed(si)),
+            // An immediate is signed.
+            Event::Addi { rt, ra, si } => {
+                write!(f, "addi r{rt}, {}, {}", OrZero(ra), si.cast_signed())
+            }
             Event::Disallowed => write!(f, "disallowed"),
             Event::Interrupt => write!(f, "interrupt"),
-            Event::Host { pr, tm } => write!(f, "host PR={}, TM={}", Flag(pr), Flag(tm)),
+            Event::Host { pr, tm } => { write!(f, "host PR={}, TM={}", u8::from(pr), u8::from(tm)) }
             Event::Rfid => write!(f, "rfid"),
             Event::Mtmsrd { t, s, tm, pr } => write!(
                 f,
                 "mtmsrd TS={}{}, TM={}, PR={}",
-                Flag(t),
-                Flag(s),
-                Flag(tm),
-                Flag(pr)
+                u8::from(t),
+                u8::from(s),
+                u8::from(tm),
+                u8::from(pr)
             ),
             Event::Tlbie { page } => write!(f, "tlbie page {page}"),
         }
     }
 }
 
-// What stands in the record's first two bytes, where the reader refused it, and what may stand there.
-#[derive(Clone, Copy)]
-struct Malformed {
-    by: u8,
-    first: u8,
-    kind: u8,
-}
-
-impl fmt::Display for Malformed {
-    fn fmt<W: fmt::Write>(&self, f: &mut fmt::Formatter<W>) -> fmt::Result {
-        let first = self.first;
-        let kind = self.kind;
-        if self.by == answer::BAD_FIRST_BYTE {
-            return write!(f, "0x{first:02x}, not 0x{FIRST_BYTE:02x}");
-        }
-        write!(f, "kind {kind}")?;
-        if self.by == answer::NO_KIND {
-            return write!(f, ", not 1 to 26");
-        }
-        Ok(())
-    }
-}
-
-// The record that stopped the run, or the bad one. Its thread is named where there is none such.
+// The record that stopped the run, or the bad one, by what it was refused for: a thread is named where there is none such, and of a record that
+// is no event what stands in its first two bytes, and what may stand there.
 #[derive(Clone, Copy)]
 struct Record<'a> {
     bytes: &'a [u8],
-    number: u32,
+    refusal: Refusal,
 }
 
 impl fmt::Display for Record<'_> {
     fn fmt<W: fmt::Write>(&self, f: &mut fmt::Formatter<W>) -> fmt::Result {
-        let bytes = self.bytes;
-        if bytes.len() < 2 {
-            return Ok(());
-        }
-        match tape::reader::read(bytes) {
-            Read::Record { thread, event } => {
-                if self.number == u32::from(answer::NO_THREAD) {
-                    write!(f, "thread {thread}, ")?;
-                }
-                write!(f, "{}", Shown(event))
+        if let Read::Record { thread, event } = tape::reader::read(self.bytes) {
+            if self.refusal == Refusal::NoThread {
+                write!(f, "thread {thread}, ")?;
             }
-            Read::Refused(by) => write!(
-                f,
-                "{}",
-                Malformed {
-                    by,
-                    first: bytes[0],
-                    kind: bytes[1],
-                }
-            ),
+            return write!(f, "{}", Shown(event));
+        }
+        let [first, kind, ..] = self.bytes else {
+            return Ok(());
+        };
+        match self.refusal {
+            Refusal::BadFirstByte => write!(f, "0x{first:02x}, not 0x{FIRST_BYTE:02x}"),
+            Refusal::NoKind => write!(f, "kind {kind}, not 1 to 26"),
+            _ => write!(f, "kind {kind}"),
         }
     }
 }
 
-// A line for the record that stopped the run, and for the bad one. It stands on the tape: the test is there since no contract says so.
-fn stopped<E: Eprint>(to: &E, input: &[u8], k: usize, number: u32) -> io::Result<()> {
-    if k >= input.len() / RECORD_SIZE {
+// Nothing where the tape ended, else one line. Input that nothing ended was too long to be run (rule P2).
+pub fn tell<E: Eprint>(to: &E, input: &[u8], ended: Option<&Ended>) -> io::Result<()> {
+    let Some(ended) = ended else {
+        return eprintln!(to; "naszeptan: tape: long, more than {LONGEST} bytes");
+    };
+    let Some(why) = Why::of(ended.answer) else {
         return Ok(());
+    };
+    let refusal = why.0;
+    if refusal == Refusal::TapeLength {
+        let n = input.len();
+        return eprintln!(to; "naszeptan: tape: {why} ({n} bytes, not a multiple of 16)");
     }
-    let from = k * RECORD_SIZE;
-    let end = from + RECORD_SIZE;
-    let bytes = &input[from..end];
-    eprintln!(to;
-        "naszeptan: record {k}: {number}, {} ({})",
-        answer(number),
-        Record { bytes, number }
-    )
-}
-
-// A line for a tape that is refused by its length.
-fn whole<E: Eprint>(to: &E, bytes: usize) -> io::Result<()> {
-    if bytes > LONGEST {
-        eprintln!(to; "naszeptan: tape: long, more than {LONGEST} bytes")
-    } else {
-        eprintln!(to; "naszeptan: tape: 6, tape length ({bytes} bytes, not a multiple of 16)")
-    }
-}
-
-// Of a tape that was run: nothing where it ended.
-fn ran<E: Eprint>(to: &E, input: &[u8], t: Told) -> io::Result<()> {
-    let n = t.answer;
-    // An answer is a byte.
-    if goes_on((n % 256) as u8) {
-        return Ok(());
-    }
-    stopped(to, input, t.count as usize, n)
-}
-
-// Nothing where the tape ended, else one line. A tape with a bad record was not run, so the tape tells of it and not the text (rule P3).
-pub fn tell<E: Eprint>(to: &E, input: &[u8], t: Told) -> io::Result<()> {
-    let bytes = input.len();
-    if bytes > LONGEST {
-        return whole(to, bytes);
-    }
-    let found = tape_whole::bad_record(input);
-    let n = found.answer;
-    match n {
-        answer::DONE => ran(to, input, t),
-        answer::TAPE_LENGTH => whole(to, bytes),
-        _ => stopped(to, input, found.index, u32::from(n)),
+    let k = ended.index;
+    // It stands on the tape: the test is there since no contract says so.
+    match input.chunks_exact(RECORD_SIZE).nth(k) {
+        Some(bytes) => {
+            eprintln!(to;
+                "naszeptan: record {k}: {why} ({})",
+                Record { bytes, refusal }
+            )
+        }
+        None => Ok(()),
     }
 }

@@ -1,25 +1,27 @@
--- `held::distinct` meets its contract: after i turns the first i indices are distinct, and the set holds them.
+-- `held::distinct` meets its contract: after each turn the indices so far are distinct, and the set holds them.
 use borrow.Author.Tests.{ne_eqb}
 use mathlib.Core.Path.{◌≡◌, refl, sym, ap, subst, ◌∙◌}
-use mathlib.Core.Bool.{Bool, true, false, not, ◌||◌, or_comm, or-false}
+use mathlib.Core.Bool.{Bool, true, false, not, ◌&&◌, ◌||◌, or_comm, or-false, not-not}
 use mathlib.Core.List.{List}
 use Prim.Native.Nat.{ℕ, ◌+◌, ◌-◌, ◌/◌, ◌≤◌, ◌<◌}
 use native.Mathlib.Omega.{arith}
 use lib.Dec.{eqb}
-use lib.ListN.{length}
+use lib.ListN.{length, take}
+use Rattle.std.specs.List.{list_all}
 use Rattle.base.specs.Below.{all_below, any_below}
 use Rattle.base.specs.Limits.{most_memory}
-use Rattle.base.proofs.Below.{all_none, all_at, all_step, any_none, any_not, any_step, and_intro, eqb_comm}
+use Rattle.base.proofs.Below.{all_none, all_at, all_cong, all_step, any_none, any_not, any_step, eqb_comm, still_false}
+use Rattle.base.proofs.Lists.{all_taken}
 use Rattle.lines.specs.Lines.{has, with}
 use Rattle.lines.specs.declared.LineSet.{LineSet}
 use Rattle.lines.proofs.Laws.{has_none, has_with, length_with}
-use Rattle.transaction.specs.Transaction.{entry}
+use Rattle.transaction.specs.Transaction.{entry, no_entry}
 use Rattle.transaction.specs.declared.Entry.{Entry}
-use Rattle.transaction.specs.declared.Transaction.{Transaction}
 use Rattle.machine.specs.Valid.{unlike, distinct}
 use Rattle.held.specs.Inner.{Seen}
+use Rattle.held.proofs.Places.{new_at, used_at}
 use Rattle.held.proofs.distinct.Goals as goal
-use Rattle.held.proofs.distinct.Goals.{then-d-lt-MEMORY+else-marked, else-d-lt-MEMORY+else-not-unlike}
+use Rattle.held.proofs.distinct.Goals.{then-d-lt-MEMORY, else-d-lt-MEMORY}
 
 -- place k names the doubleword
 abbrev names : List Entry → ℕ → ℕ → Bool
@@ -49,63 +51,68 @@ module _ (ws : List ℕ) (es : List Entry) (n : ℕ) (a : Seen ws es n) where
     λ d g. a.1 d g ∙ sym (or-false _) ∙ ap (◌||◌ (any_below (names es d) n)) (sym (ne_eqb (entry es n).index d (λ q. omega arith))) ∙ sym (more d),
   )
 
--- a place before has the index of place n
-told : (x : Transaction) (n : ℕ) → any_below (names x.log (entry x.log n).index) n ≡ not (unlike x n)
-unfolding unlike
-told x n = any_not (names x.log (entry x.log n).index) n
+  -- the set tells whether the index at place n is new
+  told : (entry es n).index < most_memory → not (has (record { words = ws }) (entry es n).index) ≡ new_at es n
+  told h = ap not (a.1 (entry es n).index h ∙ any_not (names es (entry es n).index) n) ∙ not-not _
+
+-- so does a look at the places before it
+looked : (es : List Entry) (n : ℕ) → n ≤ length es → list_all (λ e. not (eqb e.index (entry es n).index)) (take n es) ≡ new_at es n
+looked es n h = sym (all_taken (λ (e : Entry). not (eqb e.index (entry es n).index)) no_entry es n h)
+
+-- all below n + 1
+next : (f : ℕ → Bool) (n : ℕ) → all_below f (n + 1) ≡ (f n && all_below f n)
+next f n = all_step f (n + 1) (omega arith) ∙ ap (λ (k : ℕ). f k && all_below f k) (let q : n + 1 - 1 ≡ n = omega arith in q)
 
 -- a test that one number fails
 fails : (f : ℕ → Bool) (n i : ℕ) → f i ≡ false → i < n → false ≡ all_below f n
-fails f n i p h = go (all_below f n) refl
-  where
-    go : (b : Bool) → all_below f n ≡ b → false ≡ b
-    go true e = sym p ∙ all_at f n i e h
-    go false e = refl
+fails f n i p h = sym (still_false (f i) (all_below f n) (λ e. all_at f n i e h) p)
 
--- one that all below i pass, and i too
-passes : (f : ℕ → Bool) (i : ℕ) → all_below f i ≡ true → f i ≡ true → all_below f (i + 1) ≡ true
-passes f i e p =
-    all_step f (i + 1) (omega arith)
-    ∙ and_intro (f (i + 1 - 1)) (all_below f (i + 1 - 1)) (ap f (let q : i + 1 - 1 ≡ i = omega arith in q) ∙ p) (ap (all_below f) (let q : i + 1 - 1 ≡ i = omega arith in q) ∙ e)
+-- of the used places as of the log
+distinct_used : (es us : List Entry) (n : ℕ) → us ≡ take n es → all_below (λ k. all_below (λ j. not (eqb (entry es j).index (entry es k).index)) k) n ≡ all_below (new_at us) n
+distinct_used es us n q =
+    all_cong _ _ n (λ k h. all_cong _ _ k (λ j g. (λ i. not (eqb (sym (used_at es us n q j (omega arith)) i).index (sym (used_at es us n q k h) i).index))))
 
--- what a test that answers the contrary tells
-contrary : (b r : Bool) (v : Bool) → r ≡ not b → r ≡ v → b ≡ not v
-contrary true r true e p = sym p ∙ e
-contrary true r false e p = refl
-contrary false r true e p = refl
-contrary false r false e p = sym p ∙ e
+pub loop-k-init : goal.loop-k-init
+loop-k-init c = record { distinct = all_none _ 0 (omega arith); seen = (refl, λ d h. has_none 64 d ∙ sym (any_none _ 0 (omega arith))) }
 
-pub loop-i-init : goal.loop-i-init
-loop-i-init c = (omega arith, all_none _ 0 (omega arith), (refl, λ d h. has_none 64 d ∙ sym (any_none _ 0 (omega arith))))
-
-pub returns-then-marked : goal.returns-then-marked
-unfolding distinct
-returns-then-marked c =
-    let x = c.args.x in
-    let e = c.marked.ensures.value ∙ c.loop-i.invariant.2.1 _ c.if-d-lt-MEMORY.true ∙ told x c.loop-i.i in
-    fails _ _ c.loop-i.i (contrary _ _ true e c.if-marked.true) c.loop-i-test.true
-
-pub returns-then-not-unlike : goal.returns-then-not-unlike
-unfolding distinct
-returns-then-not-unlike c =
-    fails _ _ c.loop-i.i (sym c.unlike.ensures ∙ c.if-not-unlike.true) c.loop-i-test.true
-
-pub loop-i-preserved : goal.loop-i-preserved
-loop-i-preserved c =
-    let x = c.args.x in
-    let n = c.loop-i.i in
-    let next : (all_below (unlike x) (n + 1) ≡ true) × Seen c.if-d-lt-MEMORY.ws x.log (n + 1) =
+pub returns-then-not-fresh : goal.returns-then-not-fresh
+unfolding distinct unlike
+returns-then-not-fresh c =
+    let x = c.args.x.now in
+    let us = c.used-used.result.now in
+    let k = c.loop-k.k in
+    let old : new_at us k ≡ false =
     elim c.if-d-lt-MEMORY.branch [
-      | then-d-lt-MEMORY+else-marked w ↦
-          let e = w.marked.ensures.value ∙ c.loop-i.invariant.2.1 _ w.if-d-lt-MEMORY.true ∙ told x n in
-          (passes _ n c.loop-i.invariant.1 (contrary _ _ false e w.if-marked.false), subst (λ (us : List ℕ). Seen us x.log (n + 1)) (sym w.ws-is) (with_one c.loop-i.ws x.log n c.loop-i.invariant.2 _ w.if-d-lt-MEMORY.true w.marked.ensures.ws_after))
-      | else-d-lt-MEMORY+else-not-unlike w ↦
-          (passes _ n c.loop-i.invariant.1 (sym w.unlike.ensures ∙ w.if-not-unlike.false), subst (λ (us : List ℕ). Seen us x.log (n + 1)) (sym w.ws-is) (past c.loop-i.ws x.log n c.loop-i.invariant.2 w.if-d-lt-MEMORY.false))
+      | then-d-lt-MEMORY w ↦ sym (w.fresh-is ∙ w.insert-fresh.ensures.value ∙ told c.loop-k.seen us k c.loop-k.invariant.seen w.if-d-lt-MEMORY.true) ∙ c.if-not-fresh.true
+      | else-d-lt-MEMORY w ↦ sym (w.fresh-is ∙ w.is_unlike-fresh.ensures ∙ looked us k (omega (arith, c.loop-k-test.true))) ∙ c.if-not-fresh.true
     ] in
-    (omega (arith, c.loop-i-test.true), next.0, next.1)
+    fails (new_at us) x.count k old (omega (arith, c.loop-k-test.true, c.used-used.ensures.len))
+    ∙ sym (distinct_used x.log us x.count c.used-used.ensures.value)
+
+pub loop-k-preserved : goal.loop-k-preserved
+loop-k-preserved c =
+    let us = c.used-used.result.now in
+    let k = c.loop-k.k in
+    let before = c.loop-k.invariant in
+    elim c.if-d-lt-MEMORY.branch [
+      | then-d-lt-MEMORY w ↦
+          let new : new_at us k ≡ true = sym (w.fresh-is ∙ w.insert-fresh.ensures.value ∙ told c.loop-k.seen us k before.seen w.if-d-lt-MEMORY.true) ∙ c.if-not-fresh.false in
+          record {
+            distinct = next (new_at us) k ∙ simp (new, before.distinct);
+            seen = subst (λ (ws : List ℕ). Seen ws us (k + 1)) (sym w.seen-is) (with_one c.loop-k.seen us k before.seen _ w.if-d-lt-MEMORY.true w.insert-fresh.ensures.seen_after);
+          }
+      | else-d-lt-MEMORY w ↦
+          let new : new_at us k ≡ true = sym (w.fresh-is ∙ w.is_unlike-fresh.ensures ∙ looked us k (omega (arith, c.loop-k-test.true))) ∙ c.if-not-fresh.false in
+          record {
+            distinct = next (new_at us) k ∙ simp (new, before.distinct);
+            seen = subst (λ (ws : List ℕ). Seen ws us (k + 1)) (sym w.seen-is) (past c.loop-k.seen us k before.seen w.if-d-lt-MEMORY.false);
+          }
+    ]
 
 pub returns : goal.returns
-unfolding distinct
+unfolding distinct unlike
 returns c =
-    let x = c.args.x in
-    sym (ap (all_below (unlike x)) (let e : x.count ≡ c.loop-i.i = omega (arith, c.loop-i-test.false, c.loop-i.invariant.0) in e) ∙ c.loop-i.invariant.1)
+    let x = c.args.x.now in
+    let us = c.used-used.result.now in
+    let all : c.loop-k.k ≡ x.count = omega (arith, c.loop-k-test.false, c.used-used.ensures.len) in
+    sym (distinct_used x.log us x.count c.used-used.ensures.value ∙ ap (all_below (new_at us)) (sym all) ∙ c.loop-k.invariant.distinct)

@@ -1,21 +1,19 @@
--- `held::indices_inside` meets its contract: all indices lie in memory if those still to be looked at do.
+-- `held::indices_inside` meets its contract.
 use borrow.Author.Rules.{rules}
-use borrow.Author.Tests.{le-ltb, lt-ltb}
-use mathlib.Core.Path.{refl}
-use native.Mathlib.Omega.{arith}
-use Rattle.base.proofs.Below.{all_fails, all_passes, all_passed}
+use borrow.Author.Tests.{tests}
+use mathlib.Core.Path.{sym, ◌∙◌}
+use lib.Dec.{ltb}
+use Rattle.std.proofs.lemmas.Iterator.{YieldsList-from_slice}
+use Rattle.std.proofs.lemmas.Iterator.Search.{all_from_yields_List}
+use Rattle.transaction.specs.declared.Entry.{Entry}
 use Rattle.machine.specs.Valid.{indices_inside}
+use Rattle.held.proofs.Places.{all_used}
 use Rattle.held.proofs.indices_inside.Goals as goal
 
-pub loop-n-init : goal.loop-n-init
-unfolding indices_inside
-loop-n-init c = (omega arith, refl)
-
-pub returns-then-len-e : goal.returns-then-len-e
-returns-then-len-e c = all_fails _ _ c.loop-n.invariant.1 (search rules) (le-ltb _ _ c.if-len-e.true)
-
-pub loop-n-preserved : goal.loop-n-preserved
-loop-n-preserved c = (omega arith, all_passes _ _ c.loop-n.invariant.1 (search rules) (lt-ltb _ _ c.if-len-e.false))
-
 pub returns : goal.returns
-returns c = all_passed _ _ c.loop-n.invariant.1 (search rules)
+unfolding indices_inside
+returns c =
+    let x = c.args.x.now in
+    let p = λ (e : Entry). ltb e.index c.args.len in
+    all_from_yields_List p _ _ _ c.all.ensures.ran (YieldsList-from_slice c.used.result.now cc) (λ x b q k. search (rules, tests))
+    ∙ sym (all_used x.log c.used.result.now x.count c.used.ensures.value p c.used.ensures.len)

@@ -1,21 +1,22 @@
--- `held::logged` meets its contract: after i turns the set has the lines of the first i places.
+-- `held::logged` meets its contract: after each turn the set has the lines of the places so far.
 use borrow.Author.Tests.{ne_eqb}
 use mathlib.Core.Path.{◌≡◌, refl, sym, ap, subst, ◌∙◌}
 use mathlib.Core.Bool.{◌||◌, or_comm, or-false}
 use mathlib.Core.List.{List}
 use Prim.Native.Nat.{ℕ, ◌+◌, ◌-◌, ◌/◌, ◌≤◌, ◌<◌}
 use native.Mathlib.Omega.{arith}
+use lib.Dec.{eqb}
 use lib.ListN.{length}
 use Rattle.base.specs.Below.{any_below}
 use Rattle.base.specs.Limits.{lines}
-use Rattle.base.proofs.Below.{any_none, any_step, eqb_comm}
+use Rattle.base.proofs.Below.{any_none, any_step, any_cong, eqb_comm}
 use Rattle.lines.specs.Lines.{empty, with}
 use Rattle.lines.specs.declared.LineSet.{LineSet}
 use Rattle.lines.proofs.Laws.{has_empty, has_with, length_with}
 use Rattle.transaction.specs.Transaction.{entry, line}
 use Rattle.transaction.specs.declared.Entry.{Entry}
 use Rattle.machine.specs.Valid.{logs_line}
-use Rattle.held.proofs.logged.Invariants.{there, Lines_of}
+use Rattle.held.proofs.Places.{there, used_at, Lines_of}
 use Rattle.held.proofs.logged.Goals as goal
 use Rattle.held.proofs.logged.Goals.{then-l-lt-LINES, else-l-lt-LINES}
 
@@ -41,25 +42,26 @@ module _ (s : LineSet) (es : List Entry) (i : ℕ) (a : Lines_of s es i) where
     λ l g. a.1 l g ∙ sym (or-false _) ∙ ap (◌||◌ (any_below (there es l) i)) (sym (ne_eqb (line (entry es i).index) l (λ q. omega arith))) ∙ sym (more l),
   )
 
-pub loop-i-init : goal.loop-i-init
+pub loop-e-init : goal.loop-e-init
 unfolding empty
-loop-i-init c = (omega arith, rw c.empty-s.ensures (refl, λ l g. has_empty l ∙ sym (any_none _ 0 (omega arith))))
+loop-e-init c = rw c.empty-s.ensures (refl, λ l g. has_empty l ∙ sym (any_none _ 0 (omega arith)))
 
-pub loop-i-preserved : goal.loop-i-preserved
-loop-i-preserved c =
-    let es = c.args.x.log in
-    let i = c.loop-i.i in
-    let next : Lines_of c.if-l-lt-LINES.s es (i + 1) =
+pub loop-e-preserved : goal.loop-e-preserved
+loop-e-preserved c =
+    let us = c.used-e-items.result.now in
+    let i = c.loop-e.e-index in
     elim c.if-l-lt-LINES.branch [
       | then-l-lt-LINES w ↦
-          subst (λ (t : LineSet). Lines_of t es (i + 1)) (sym (w.s-is ∙ w.with-s.ensures)) (with_line c.loop-i.s es i c.loop-i.invariant.1 w.if-l-lt-LINES.true)
+          subst (λ (t : LineSet). Lines_of t us (i + 1)) (sym (w.s-is ∙ w.insert.ensures)) (with_line c.loop-e.s us i c.loop-e.invariant w.if-l-lt-LINES.true)
       | else-l-lt-LINES w ↦
-          subst (λ (t : LineSet). Lines_of t es (i + 1)) (sym w.s-is) (past_lines c.loop-i.s es i c.loop-i.invariant.1 w.if-l-lt-LINES.false)
-    ] in
-    (omega arith, next)
+          subst (λ (t : LineSet). Lines_of t us (i + 1)) (sym w.s-is) (past_lines c.loop-e.s us i c.loop-e.invariant w.if-l-lt-LINES.false)
+    ]
 
 pub returns : goal.returns
 unfolding logs_line
 returns c =
-    let x = c.args.x in
-    λ l g. c.loop-i.invariant.1.1 l g ∙ ap (any_below (there x.log l)) (let e : c.loop-i.i ≡ x.count = omega arith in e)
+    let x = c.args.x.now in
+    let us = c.used-e-items.result.now in
+    let all : c.loop-e.e-index ≡ x.count = omega (arith, c.loop-e-test.false, c.used-e-items.ensures.len) in
+    λ l g. c.loop-e.invariant.1 l g ∙ ap (any_below (there us l)) all
+    ∙ any_cong _ _ x.count (λ k h. ap (λ (e : Entry). eqb (line e.index) l) (used_at x.log us x.count c.used-e-items.ensures.value k h))

@@ -1,21 +1,16 @@
--- `held::marks_right` meets its contract: all used places are marked right if those still to be looked at are.
+-- `held::marks_right` meets its contract.
 use borrow.Author.Rules.{rules}
-use mathlib.Core.Path.{refl}
-use native.Mathlib.Omega.{arith}
-use Rattle.base.proofs.Below.{all_fails, all_passes, all_passed}
-use Rattle.machine.specs.Valid.{marks_right}
-use Rattle.std.proofs.Common.{sym, ◌∙◌}
+use borrow.Author.Tests.{tests}
+use mathlib.Core.Path.{sym, ◌∙◌}
+use Rattle.std.proofs.lemmas.Iterator.{YieldsList-from_slice}
+use Rattle.std.proofs.lemmas.Iterator.Search.{all_from_yields_List}
+use Rattle.machine.specs.Valid.{marked_right, marks_right}
+use Rattle.held.proofs.Places.{all_used}
 use Rattle.held.proofs.marks_right.Goals as goal
 
-pub loop-n-init : goal.loop-n-init
-unfolding marks_right
-loop-n-init c = (omega arith, refl)
-
-pub returns-then-not-marked_right : goal.returns-then-not-marked_right
-returns-then-not-marked_right c = all_fails _ _ c.loop-n.invariant.1 (search rules) (sym c.marked_right.ensures ∙ c.if-not-marked_right.true)
-
-pub loop-n-preserved : goal.loop-n-preserved
-loop-n-preserved c = (omega arith, all_passes _ _ c.loop-n.invariant.1 (search rules) (sym c.marked_right.ensures ∙ c.if-not-marked_right.false))
-
 pub returns : goal.returns
-returns c = all_passed _ _ c.loop-n.invariant.1 (search rules)
+unfolding marks_right
+returns c =
+    let x = c.args.x.now in
+    all_from_yields_List marked_right _ _ _ c.all.ensures.ran (YieldsList-from_slice c.used.result.now cc) (λ x b q k. search (rules, tests))
+    ∙ sym (all_used x.log c.used.result.now x.count c.used.ensures.value marked_right c.used.ensures.len)

@@ -1,21 +1,22 @@
--- `held::no_line` meets its contract: all words are zero if those still to be looked at are.
+-- `held::no_line` meets its contract: all words are zero.
 use borrow.Author.Rules.{rules}
-use borrow.Author.Tests.{ne_eqb, eq-eqb}
-use mathlib.Core.Path.{refl}
-use native.Mathlib.Omega.{arith}
-use Rattle.base.proofs.Below.{all_fails, all_passes, all_passed}
+use borrow.Author.Tests.{tests}
+use mathlib.Core.Path.{◌≡◌, sym, ◌∙◌}
+use Prim.Native.Nat.{ℕ}
+use lib.Dec.{eqb}
+use lib.ListN.{length}
+use Rattle.std.proofs.lemmas.Iterator.{YieldsList-from_slice}
+use Rattle.std.proofs.lemmas.Iterator.Search.{all_from_yields_List}
+use Rattle.base.specs.Limits.{words}
+use Rattle.base.proofs.Lists.{all_listed}
 use Rattle.machine.specs.Valid.{no_line}
 use Rattle.held.proofs.no_line.Goals as goal
 
-pub loop-k-init : goal.loop-k-init
-unfolding no_line
-loop-k-init c = (omega arith, refl)
-
-pub returns-then-s-k-ne0 : goal.returns-then-s-k-ne0
-returns-then-s-k-ne0 c = all_fails _ _ c.loop-k.invariant.1 (search rules) (ne_eqb _ _ c.if-s-k-ne0.true)
-
-pub loop-k-preserved : goal.loop-k-preserved
-loop-k-preserved c = (omega arith, all_passes _ _ c.loop-k.invariant.1 (search rules) (eq-eqb _ _ c.if-s-k-ne0.false))
-
 pub returns : goal.returns
-returns c = all_passed _ _ c.loop-k.invariant.1 (search rules)
+unfolding no_line
+returns c =
+    let ws = c.args.s.now.words in
+    let n : length ws ≡ words = search rules in
+    let p = λ (w : ℕ). eqb w 0 in
+    all_from_yields_List p _ _ _ c.all.ensures.ran (YieldsList-from_slice ws cc) (λ x b q k. search (rules, tests))
+    ∙ sym (all_listed p 0 ws words n)

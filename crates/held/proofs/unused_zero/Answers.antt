@@ -1,25 +1,31 @@
--- `held::unused_zero` meets its contract: the count is in range, and all places are right if those still to be looked at are.
+-- `held::unused_zero` meets its contract: the count is in range, and all places from there on are zero.
 use borrow.Author.Rules.{rules}
-use borrow.Author.Tests.{le-leb, lt-leb}
+use borrow.Author.Tests.{tests, le-leb, lt-leb}
+use mathlib.Core.Path.{◌≡◌, sym, ◌∙◌}
+use Prim.Native.Nat.{◌-◌}
 use native.Mathlib.Omega.{arith}
-use Rattle.base.proofs.Below.{all_fails, all_passes, all_passed}
+use lib.ListN.{length, drop}
+use Rattle.std.proofs.lemmas.List.{length-drop, take_all}
+use Rattle.std.proofs.lemmas.Iterator.{YieldsList-from_slice}
+use Rattle.std.proofs.lemmas.Iterator.Search.{all_from_yields_List}
+use Rattle.std.specs.List.{list_all}
+use Rattle.base.specs.Limits.{most_places}
+use Rattle.base.proofs.Below.{length_parts}
 use Rattle.machine.specs.Valid.{unused_zero}
-use Rattle.std.proofs.Common.{sym, ◌∙◌}
+use Rattle.held.proofs.Places.{is_unused, unused_listed}
 use Rattle.held.proofs.unused_zero.Goals as goal
 
-pub returns-then-count-gt-PLACES : goal.returns-then-count-gt-PLACES
+pub returns-then-x-le-PLACES : goal.returns-then-x-le-PLACES
 unfolding unused_zero
-returns-then-count-gt-PLACES c = simp (lt-leb _ _ c.if-count-gt-PLACES.true)
+returns-then-x-le-PLACES c =
+    let x = c.args.x.now in
+    let n : length x.log ≡ most_places = search (rules, length_parts) in
+    let rest : c.iter.result.rest.now ≡ drop x.count x.log =
+    c.iter.ensures.rest ∙ take_all (most_places - x.count) (drop x.count x.log) (let q : length (drop x.count x.log) ≡ length x.log - x.count = length-drop x.count x.log in omega arith) in
+    let listed : c.all.result ≡ list_all is_unused (drop x.count x.log) =
+    all_from_yields_List is_unused _ _ c.all.result c.all.ensures.ran (YieldsList-from_slice (drop x.count x.log) rest) (λ x b q k. search (rules, tests)) in
+    simp (le-leb _ _ c.if-x-le-PLACES.true) (listed ∙ sym (unused_listed x.log x.count n c.if-x-le-PLACES.true))
 
-pub loop-n-init : goal.loop-n-init
+pub returns-else-x-le-PLACES : goal.returns-else-x-le-PLACES
 unfolding unused_zero
-loop-n-init c = (omega arith, simp (le-leb _ _ c.if-count-gt-PLACES.false))
-
-pub returns-then-not-place_right : goal.returns-then-not-place_right
-returns-then-not-place_right c = all_fails _ _ c.loop-n.invariant.1 (search rules) (sym c.place_right.ensures ∙ c.if-not-place_right.true)
-
-pub loop-n-preserved : goal.loop-n-preserved
-loop-n-preserved c = (omega arith, all_passes _ _ c.loop-n.invariant.1 (search rules) (sym c.place_right.ensures ∙ c.if-not-place_right.false))
-
-pub returns : goal.returns
-returns c = all_passed _ _ c.loop-n.invariant.1 (search rules)
+returns-else-x-le-PLACES c = simp (lt-leb _ _ c.if-x-le-PLACES.false)

@@ -10,6 +10,4 @@ use Rattle.held.proofs.writes_logged.Goals as goal
 
 pub returns : goal.returns
 unfolding writes_logged line_logged same
-returns c =
-    let w = c.args.x.writes in
-    c.same.ensures ∙ all_cong _ _ lines (λ l h. ap (beq (has w l)) (c.logged-s.ensures l h))
+returns c = c.same.ensures ∙ all_cong _ _ lines (λ l h. ap (beq (has c.args.x.now.writes l)) (c.logged.ensures l h))

@@ -1,21 +1,22 @@
--- `validity::cr_small` meets its contract: all fields are small if those still to be looked at are.
+-- `validity::cr_small` meets its contract: field by field.
 use borrow.Author.Rules.{rules}
-use borrow.Author.Tests.{le-ltb, lt-ltb}
-use mathlib.Core.Path.{refl}
-use native.Mathlib.Omega.{arith}
-use Rattle.base.proofs.Below.{all_fails, all_passes, all_passed}
+use borrow.Author.Tests.{tests}
+use mathlib.Core.Path.{◌≡◌, sym, ◌∙◌}
+use Prim.Native.Nat.{ℕ}
+use lib.Dec.{ltb}
+use lib.ListN.{length}
+use Rattle.std.proofs.lemmas.Iterator.{YieldsList-from_slice}
+use Rattle.std.proofs.lemmas.Iterator.Search.{all_from_yields_List}
+use Rattle.base.specs.Limits.{cr_fields}
+use Rattle.base.proofs.Lists.{all_listed}
 use Rattle.machine.specs.Valid.{cr_small}
 use Rattle.validity.proofs.cr_small.Goals as goal
 
-pub loop-f-init : goal.loop-f-init
-unfolding cr_small
-loop-f-init c = (omega arith, refl)
-
-pub returns-then-r-f-ge16 : goal.returns-then-r-f-ge16
-returns-then-r-f-ge16 c = all_fails _ _ c.loop-f.invariant.1 (search rules) (le-ltb _ _ c.if-r-f-ge16.true)
-
-pub loop-f-preserved : goal.loop-f-preserved
-loop-f-preserved c = (omega arith, all_passes _ _ c.loop-f.invariant.1 (search rules) (lt-ltb _ _ c.if-r-f-ge16.false))
-
 pub returns : goal.returns
-returns c = all_passed _ _ c.loop-f.invariant.1 (search rules)
+unfolding cr_small
+returns c =
+    let fs = c.args.r.now.cr in
+    let n : length fs ≡ cr_fields = search rules in
+    let p = λ (f : ℕ). ltb f 16 in
+    all_from_yields_List p _ _ _ c.all.ensures.ran (YieldsList-from_slice fs cc) (λ x b q k. search (rules, tests))
+    ∙ sym (all_listed p 0 fs cr_fields n)

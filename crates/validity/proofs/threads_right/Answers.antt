@@ -1,21 +1,17 @@
--- `validity::threads_right` meets its contract: all records are right if those still to be looked at are.
+-- `validity::threads_right` meets its contract: record by record.
 use borrow.Author.Rules.{rules}
-use mathlib.Core.Path.{refl}
-use native.Mathlib.Omega.{arith}
-use Rattle.base.proofs.Below.{all_fails, all_passes, all_passed}
-use Rattle.machine.specs.Valid.{threads_right}
-use Rattle.std.proofs.Common.{sym, ◌∙◌}
+use borrow.Author.Tests.{tests}
+use mathlib.Core.Path.{refl, sym, ◌∙◌}
+use Rattle.std.proofs.lemmas.Iterator.{YieldsList-from_range}
+use Rattle.std.proofs.lemmas.Iterator.Search.{all_from_yields_List}
+use Rattle.base.specs.Limits.{most_threads}
+use Rattle.base.proofs.Lists.{all_range}
+use Rattle.machine.specs.Valid.{threads_right, thread_right}
 use Rattle.validity.proofs.threads_right.Goals as goal
 
-pub loop-w-init : goal.loop-w-init
-unfolding threads_right
-loop-w-init c = (omega arith, refl)
-
-pub returns-then-not-thread_right : goal.returns-then-not-thread_right
-returns-then-not-thread_right c = all_fails _ _ c.loop-w.invariant.1 (search rules) (sym c.thread_right.ensures ∙ c.if-not-thread_right.true)
-
-pub loop-w-preserved : goal.loop-w-preserved
-loop-w-preserved c = (omega arith, all_passes _ _ c.loop-w.invariant.1 (search rules) (sym c.thread_right.ensures ∙ c.if-not-thread_right.false))
-
 pub returns : goal.returns
-returns c = all_passed _ _ c.loop-w.invariant.1 (search rules)
+unfolding threads_right
+returns c =
+    let p = thread_right c.args.m.now c.args.len in
+    all_from_yields_List p _ _ _ c.all.ensures.ran (YieldsList-from_range 0 most_threads most_threads refl refl) (λ x b q k. search (rules, tests))
+    ∙ sym (all_range p most_threads)

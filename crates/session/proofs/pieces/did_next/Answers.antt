@@ -1,13 +1,17 @@
 -- `session::pieces::did_next` meets its contract.
-use Rattle.std.proofs.Common.{◌∙◌}
-use Rattle.session_rules.proofs.Feeding.{ran, sets_none, sets_next}
+use Rattle.std.proofs.Common.{sym, ◌∙◌}
+use borrow.Author.Tests.{eqb-true, eqb-false}
+use Rattle.session_rules.specs.Feeding.{did}
+use Rattle.session_rules.proofs.Feeding.{ran}
+use Rattle.session.proofs.Feeds.{no_place, next_place}
 use Rattle.session.proofs.pieces.did_next.Goals as goal
 
-pub returns-then-answers-eq0-clause-answers_after : goal.returns-then-answers-eq0-clause-answers_after
-returns-then-answers-eq0-clause-answers_after c =
-    c.did.ensures.answers_after ∙ sets_none (ran c.args.bytes.now c.args.m c.args.mem.now).answers c.args.answers.now 0 1 c.if-answers-eq0.true
+pub returns-then-is_empty : goal.returns-then-is_empty
+returns-then-is_empty c =
+    no_place (did c.args.count c.args.bytes.now (ran c.args.bytes.now c.args.m c.args.mem.now)) c.args.answers.now _ c.did.ensures
+    (eqb-true _ 0 (sym c.is_empty.ensures ∙ c.if-is_empty.true))
 
-pub returns-clause-answers_after : goal.returns-clause-answers_after
-returns-clause-answers_after c =
-    let l = c.args.answers.now in
-    sets_next (ran c.args.bytes.now c.args.m c.args.mem.now).answers l _ c.if-answers-eq0.false c.did-2.ensures.answers_after
+pub returns-else-is_empty : goal.returns-else-is_empty
+returns-else-is_empty c =
+    next_place (did c.args.count c.args.bytes.now (ran c.args.bytes.now c.args.m c.args.mem.now)) c.args.answers.now _ _ _ c.did-else-is_empty.ensures
+    (eqb-false _ 0 (sym c.is_empty.ensures ∙ c.if-is_empty.false))

@@ -1,0 +1,2 @@
+pub mod Landed
+pub mod Inner
