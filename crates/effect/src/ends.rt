@@ -15,7 +15,8 @@ use thread::{State, Thread};
 #[tactic(auto, unfolding(power_rules::specs::Ends::tend, transaction::specs::Transaction::written))]
 pub fn tend(t: &mut Thread, memory: &mut [u64], a: bool) -> Completion
     requires { t.old.transaction.count ≤ most_places }
-    ensures { record { answer = completion_number result; thread = t.new; touch = Untouched; memory = memory.new } ≡ landed (tend t.old.control.msr.state t.old a) t.old.transaction memory.old }
+    ensures { record { answer = completion_number result; thread = t.new; touch = Untouched; memory = memory.new }
+        ≡ landed (tend t.old.control.msr.state t.old a) t.old.transaction memory.old }
 {
     common::show_state(t);
     if t.control.msr.state == State::T {

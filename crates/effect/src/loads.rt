@@ -22,7 +22,8 @@ pub fn load(t: &mut Thread, memory: &[u64], rt: u8, part: Part) -> Went
     requires index_bound { part.index < length memory.now }
     requires width_nonzero { 0 < part.width }
     requires width_bound { part.low + part.width ≤ bytes }
-    ensures landed { left result t.new memory.now ≡ landed (load t.old.control.msr.state t.old rt part.index part.low part.width memory.now) t.old.transaction memory.now }
+    ensures landed { left result t.new memory.now
+        ≡ landed (load t.old.control.msr.state t.old rt part.index part.low part.width memory.now) t.old.transaction memory.now }
     ensures lined { Lined result.touch }
 {
     let line = part.index as usize / LINE;

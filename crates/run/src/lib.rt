@@ -23,7 +23,8 @@ use tape::{RECORD_SIZE, Read, reader};
 fn run_valid(m: Machine, mem: &mut [u64], tape: &[u8], answers: &mut [u8]) -> Ended
     requires mem_value { valid m (length mem.old) ≡ true }
     requires record_size_value { (first_bad read_number tape.now 0 (length tape.now / record_size)).answer ≡ 0 }
-    ensures { record { ended = result; memory = mem.new; answers = answers.new } ≡ filled answers.old 0 (play (reads tape.now 0 (length tape.now / record_size)) 0 m mem.old) }
+    ensures { record { ended = result; memory = mem.new; answers = answers.new }
+        ≡ filled answers.old 0 (play (reads tape.now 0 (length tape.now / record_size)) 0 m mem.old) }
 {
     let mut machine = m;
     let (records, _) = tape.as_chunks::<RECORD_SIZE>();

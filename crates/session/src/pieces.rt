@@ -39,7 +39,8 @@ fn behind(count: usize, e: Ended, left: &[u8]) -> Session
 // which `Fed` and C have apart.
 pub fn did(count: usize, m: Machine, mem: &mut [u64], bytes: &[u8], answers: &mut [u8]) -> Fed
     requires { valid m (length mem.old) ≡ true }
-    ensures { record { fed = result; memory = mem.new; buffer = answers.new } ≡ left (did count bytes.now (play (reads bytes.now 0 (length bytes.now / record_size)) 0 m mem.old)) answers.old 0 }
+    ensures { record { fed = result; memory = mem.new; buffer = answers.new }
+        ≡ left (did count bytes.now (play (reads bytes.now 0 (length bytes.now / record_size)) 0 m mem.old)) answers.old 0 }
 {
     let e = run::play(m, mem, bytes, answers);
     let n = bytes.len() / RECORD_SIZE;
@@ -53,7 +54,8 @@ pub fn did(count: usize, m: Machine, mem: &mut [u64], bytes: &[u8], answers: &mu
 // The same with the answers from place 1 on, for the records behind a first one.
 fn did_next(count: usize, m: Machine, mem: &mut [u64], bytes: &[u8], answers: &mut [u8]) -> Fed
     requires { valid m (length mem.old) ≡ true }
-    ensures { record { fed = result; memory = mem.new; buffer = answers.new } ≡ left (did count bytes.now (play (reads bytes.now 0 (length bytes.now / record_size)) 0 m mem.old)) answers.old 1 }
+    ensures { record { fed = result; memory = mem.new; buffer = answers.new }
+        ≡ left (did count bytes.now (play (reads bytes.now 0 (length bytes.now / record_size)) 0 m mem.old)) answers.old 1 }
 {
     if answers.is_empty() {
         did(count, m, mem, bytes, answers)
