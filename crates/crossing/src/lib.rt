@@ -83,6 +83,7 @@ impl RawControl {
 
 impl RawThread {
     // For any bits, as `control`.
+    #[inline(always)]
     #[tactic(auto, unfolding(crate::specs::Crossing::thread_of))]
     fn thread(&self) -> Thread
         ensures { result ≡ thread_of self.now }
@@ -108,6 +109,8 @@ impl RawMachine {
     }
 
     // What is made of any bits. Those that are no machine's are refused by the caller. Four records, here and back, as `machine_of` is defined.
+    // Always inlined: else all of a machine, 7 KB, is copied twice (docs/PERFORMANCE.md).
+    #[inline(always)]
     #[tactic(auto, unfolding(crate::specs::Crossing::machine_of))]
     pub fn machine(&self) -> Machine
         ensures { result ≡ machine_of self.now }
@@ -120,6 +123,7 @@ impl RawMachine {
     }
 }
 
+// Where the test of a machine is most of a call, `is_right` and `machine` are called: a `Result` with a machine in it is one copy more.
 impl TryFrom<&RawMachine> for Machine {
     type Error = NotAMachine;
 

@@ -53,7 +53,7 @@ tlbie_lined T t p h = tt
 tlbie_lined S t p h = h
 
 -- the number of a page of a memory
-page_in : (p len : ℕ) → page_size * p < len → len ≤ line_size * lines → p < pages
+pub page_in : (p len : ℕ) → page_size * p < len → len ≤ line_size * lines → p < pages
 page_in p len h m = omega arith
 
 pub effect_lined : (e : Event) (t : Thread) (mem : List ℕ) → operands_right e (length mem) ≡ true → length mem ≤ line_size * lines → Touches (effect e t mem)

@@ -6,7 +6,6 @@ ghost use Rattle.host_rules.specs.Sessions.{open_raw, feed, close};
 use crate::entries;
 use crossing::RawMachine;
 use host_rules::{RawEnded, RawFed, RawSession};
-use machine::Machine;
 use session_rules::{HELD, Session};
 
 // A session on a machine; where it is refused its answer is the number.
@@ -14,16 +13,16 @@ use session_rules::{HELD, Session};
 pub fn naszeptan_open(m: RawMachine, len: usize) -> RawSession
     ensures { result ≡ open_raw m len }
 {
-    match Machine::try_from(&m) {
-        Ok(machine) => RawSession::from(&session::opened(machine, len)),
-        Err(_) => RawSession {
+    if !m.is_right() {
+        return RawSession {
             machine: m,
             count: 0,
             held: 0,
             answer: entries::naszeptan_valid(m, len),
             bytes: [0; HELD],
-        },
+        };
     }
+    RawSession::from(&session::opened(m.machine(), len))
 }
 
 // A piece of the tape. The answers of the records that it finishes go to the buffer, as far as it has places.

@@ -9,15 +9,14 @@ ghost use Rattle.host_rules.specs.Host.{number};
 
 use base::answer::Refusal;
 use crossing::RawMachine;
-use machine::Machine;
 
 // The tests 1 and 2 of any bits.
 #[tactic(auto, unfolding(host_rules::specs::Host::number))]
 pub fn judged(m: &RawMachine, len: usize) -> Result<(), Refusal>
     ensures { judgement_number result ≡ number m.now len }
 {
-    if let Ok(machine) = Machine::try_from(m) {
-        return validity::judged(&machine, len);
+    if m.is_right() {
+        return validity::judged(&m.machine(), len);
     }
     if validity::sized(&m.machine(), len) {
         Err(Refusal::NoMachine)

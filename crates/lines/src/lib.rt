@@ -26,12 +26,12 @@ impl LineSet {
     // A line is a number, as in `Touch` and the rules; so is a page. Callers have its bound from the operand: a type for it would be built at
     // each call.
     #[inline]
-    #[tactic(auto, unfolding(crate::specs::Lines::has, crate::specs::Lines::place))]
+    #[tactic(auto, using(crate::proofs::Laws::shared_line))]
     pub fn has(&self, line: usize) -> bool
         requires { line < lines }
         ensures { result ≡ has self.now line }
     {
-        self.words[line / 64] >> (line % 64) & 1 == 1
+        shared(self.words[line / 64], line_mask(line))
     }
 
     // Has a line of the page: a page is half of word page / 2.

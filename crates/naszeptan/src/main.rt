@@ -46,12 +46,14 @@ fn fail(rt: &HostRuntime, what: &str, error: io::Error) -> io::Result<()> {
 }
 
 // The text of the input, written, and then why the run stopped, so that standard error has at most one line.
+#[tactic(auto, using(text::proofs::Laws::text_fits))]
 fn answer(rt: &HostRuntime, input: &[u8]) -> io::Result<()> {
     // Fixed memory, as the input's.
     let mut out = [0u8; LONGEST];
     let mut page = Page::new(&mut out);
     let ended = text::write(input, &mut page);
-    match rt.write_all(page.text()) {
+    let n = page.len();
+    match rt.write_all(&out[..n]) {
         Ok(()) => words::tell(rt, input, ended.as_ref()),
         Err(error) => fail(rt, "standard output", error),
     }

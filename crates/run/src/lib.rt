@@ -39,15 +39,17 @@ fn run_valid(m: Machine, mem: &mut [u64], tape: &[u8], answers: &mut [u8]) -> En
                 machine,
             };
         };
-        let done = step_in_place(&mut machine, mem, thread, event);
-        put(answers, k, answer::number(done));
-        if let Err(refusal) = done {
-            return Ended {
-                answer: refusal.number(),
-                count: k,
-                index: k,
-                machine,
-            };
+        match step_in_place(&mut machine, mem, thread, event) {
+            Ok(completion) => put(answers, k, completion.number()),
+            Err(refusal) => {
+                put(answers, k, refusal.number());
+                return Ended {
+                    answer: refusal.number(),
+                    count: k,
+                    index: k,
+                    machine,
+                };
+            }
         }
     }
     Ended {

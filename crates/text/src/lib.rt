@@ -1,9 +1,10 @@
 // The bytes that the program writes for the bytes of standard input (rules P1 to P6).
 #![tactic(auto)]
 
-ghost use Rattle.std.specs.Prelude.{◌≡◌, length};
+ghost use Rattle.std.specs.Prelude.{◌≡◌, length, nat_lt};
 ghost use Rattle.std.proofs.lemmas.List.Edits.{sets};
 ghost use Rattle.text_lines.specs.Inner.{written};
+ghost use Rattle.text_lines.specs.Lines.{longest};
 ghost use Rattle.text.specs.Inner.{is_bad};
 ghost use Rattle.text.specs.Text.{text, ended};
 
@@ -15,6 +16,13 @@ use text_lines::{LONGEST, Page};
 
 // The most records of a tape that is run.
 const RECORDS: usize = LONGEST / RECORD_SIZE;
+
+// Input that is too long to be run (rule P2).
+fn is_long(input: &[u8]) -> bool
+    ensures { result ≡ nat_lt longest (length input.now) }
+{
+    input.len() > LONGEST
+}
 
 // Whether a run's answer is the number of a bad record, by number, as `Ended` has it. No event is refused by one of these.
 // The answer is a number, as `Ended` has it.
@@ -32,7 +40,7 @@ pub fn write(input: &[u8], page: &mut Page) -> Option<Ended>
     ensures page_after { page.new ≡ written page.old (text input.now) }
     ensures value { result ≡ ended input.now }
 {
-    if input.len() > LONGEST {
+    if is_long(input) {
         page.long_line();
         return None;
     }
