@@ -123,7 +123,7 @@ impl RawMachine {
     }
 }
 
-// Where the test of a machine is most of a call, `is_right` and `machine` are called: a `Result` with a machine in it is one copy more.
+// Where copying is most of a call, `is_right` and `machine` are called: a `Result` with a machine in it is copied again.
 impl TryFrom<&RawMachine> for Machine {
     type Error = NotAMachine;
 

@@ -24,7 +24,7 @@ impl LineSet {
     }
 
     // A line is a number, as in `Touch` and the rules; so is a page. Callers have its bound from the operand: a type for it would be built at
-    // each call.
+    // each call. It and `has_page` are alike in shape alone: each has a mask and a definition of its own.
     #[inline]
     #[tactic(auto, using(crate::proofs::Laws::shared_line))]
     pub fn has(&self, line: usize) -> bool
